@@ -3,11 +3,14 @@ from __future__ import annotations
 
 import functools
 import gc
+import os
+import signal
 import sys
 from collections.abc import Callable
+from pathlib import Path
 from typing import NoReturn
 
-from motesim.faults import status_of
+from motesim.faults import Fault, status_of
 
 
 def version_line() -> str:
@@ -39,3 +42,15 @@ def command(tool: str, version: Callable[[], str] = version_line) -> Callable[[C
             finish(tool, work, version)
         return main
     return made
+
+
+def become(program: Path, words: list[str]) -> NoReturn:
+    """Replaces this process by a program, which is called with these words and has the signals of any other."""
+    # (Python ignores them)
+    for number in signal.SIGPIPE, signal.SIGXFSZ:
+        signal.signal(number, signal.SIG_DFL)
+    sys.stdout.flush()
+    try:
+        os.execv(program, words)
+    except OSError as fault:
+        raise Fault('%s can\'t be run: %s' % (program, fault.strerror)) from None

@@ -59,19 +59,8 @@ def write_whole(path: str | Path, parts: Iterable[bytes]) -> None:
         raise NotWritten(path, fault.strerror or str(fault)) from None
 
 
-def replace_whole(path: str | Path, parts: Iterable[bytes]) -> None:
-    """Writes a file like `write_whole`, but replaces a symbolic link with this name instead of following it. For
-    folders that somebody else filled."""
-    path = Path(path)
-    try:
-        _replace(path, parts)
-    except OSError as fault:
-        raise NotWritten(path, fault.strerror or str(fault)) from None
-
-
 def _replace(target: Path, parts: Iterable[bytes]) -> None:
-    is_file = target.is_file() and not target.is_symlink()
-    mode = target.stat().st_mode & 0o777 if is_file else 0o666 & ~_mask()
+    mode = target.stat().st_mode & 0o777 if target.is_file() else 0o666 & ~_mask()
     number, scratch = tempfile.mkstemp(prefix='.%s.' % target.name[:100], dir=target.parent)
     try:
         with open(number, 'wb') as file:

@@ -18,9 +18,9 @@ def clock(seconds: float) -> str:
 class Progress:
     """On a terminal one line, which changes; elsewhere a line now and then."""
 
-    def __init__(self, is_often: bool = False) -> None:
-        self.is_terminal = sys.stderr.isatty() and not is_often
-        self.every = ON_TERMINAL if self.is_terminal or is_often else ELSEWHERE
+    def __init__(self) -> None:
+        self.is_terminal = sys.stderr.isatty()
+        self.every = ON_TERMINAL if self.is_terminal else ELSEWHERE
         self.begun = self.last = time.monotonic()
         self.is_shown = False
 

@@ -8,7 +8,6 @@ from __future__ import annotations
 
 import os
 import shutil
-import subprocess
 import sys
 import tempfile
 import time
@@ -17,13 +16,11 @@ from pathlib import Path
 from motesim.faults import Fault
 from motesim.runner.programs import PROGRAM, PROGRAMS, TOP, compiled_kept, is_program, programs_in
 from project import kit
-from project.running import end_on_signals, is_locked, locked
+from project.running import end_on_signals, locked
 
 COMPILING = 'motesim is not built yet: compiling it, without a proof; this needs one or two minutes'
 # The file that the process which compiles a binary has locked.
 COMPILES = PROGRAMS / 'compiling.lock'
-# The niceness of a compilation in the background: the user's other work goes first, but doesn't starve it.
-NICENESS = 5
 WAITING = 'another run is compiling the program; this one waits for it'
 
 
@@ -55,14 +52,6 @@ def compile_program(name: str = PROGRAM) -> Path:
                 print('motesim: %s' % line, file=sys.stderr, flush=True)
             make(kept)
     return kept
-
-
-def compile_in_background() -> None:
-    """Starts a process that compiles the binaries of these sources, unless another process compiles one."""
-    if not is_locked(COMPILES):
-        subprocess.Popen(['nice', '-n', str(NICENESS), sys.executable, '-Bm', __name__], stdin=subprocess.DEVNULL,
-                         stdout=subprocess.DEVNULL, stderr=subprocess.DEVNULL, start_new_session=True,
-                         env={**os.environ, 'PYTHONPATH': str(TOP / 'tools')})
 
 
 if __name__ == '__main__':

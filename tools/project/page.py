@@ -14,7 +14,6 @@ import subprocess
 import sys
 from pathlib import Path
 
-from motesim.explain.rules import rules as corrections
 from motesim.faults import Fault
 from motesim.files import write_whole
 from motesim.notation.faults import RULES as PROGRAM_RULES
@@ -39,9 +38,9 @@ NO_ESBUILD = 'this needs esbuild: on Debian `apt-get install esbuild` installs i
 
 
 def data() -> str:
-    """The examples, the words of the notation, the rules that errors break, and those of corrections, as JSON."""
+    """The examples, the words of the notation, those of corrections, and the rules that errors break, as JSON."""
     rules = {'program %d' % kind: '%s: %s' % rule for kind, rule in PROGRAM_RULES.items()} | SCENARIO_RULES
-    return json.dumps({**offered(), 'rules': rules, 'corrections': corrections()}, separators=(',', ':'), ensure_ascii=False).replace('<', '\\u003c')
+    return json.dumps({**offered(), 'rules': rules}, separators=(',', ':'), ensure_ascii=False).replace('<', '\\u003c')
 
 
 def script(entry: Path, before: str = '') -> str:

@@ -58,16 +58,6 @@ def end_on_signals() -> None:
             signal.signal(number, stop)
 
 
-def is_locked(file: Path) -> bool:
-    """Returns whether a process does the work of this lock."""
-    try:
-        with open(file, 'rb') as lock:
-            fcntl.flock(lock, fcntl.LOCK_SH | fcntl.LOCK_NB)
-    except (FileNotFoundError, BlockingIOError) as fault:
-        return isinstance(fault, BlockingIOError)
-    return False
-
-
 @contextlib.contextmanager
 def locked(file: Path, waiting: str) -> Iterator[None]:
     """Does the work of a block while no other process does it. If another process does it, prints a line and waits."""

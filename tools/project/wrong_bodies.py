@@ -8,8 +8,8 @@ no longer fits, or if the prover stops at a limit. Then the mutant is reported a
 somebody rewrites it so that the contract decides. A control comes first: it has to prove the crate without an edit.
 
 The tool uses the libraries in crates/*/out, and first builds those that are missing or outdated. With --built it builds
-none, because rt ci has just built them. Each verdict is noted in docs/proof/wrong_bodies.tsv, with a digest of everything on
-which it depends. As many checks run in parallel as processors and memory allow, or as RT_JOBS says. The last line is
+none, because rt ci has just built them. Each verdict is noted in docs/proof/wrong_bodies.tsv, with a digest of the texts
+that it is about. As many checks run in parallel as processors and memory allow, or as RT_JOBS says. The last line is
 `N passed, M failed, K skipped`. The status is 1 if a mutant failed, and otherwise 0.
 """
 from __future__ import annotations
@@ -18,10 +18,11 @@ import argparse
 import hashlib
 import math
 import os
-from collections.abc import Mapping, Sequence
+from collections.abc import Callable, Mapping, Sequence
 from functools import partial
-from itertools import chain, groupby
+from itertools import groupby
 from pathlib import Path
+from threading import Lock
 from typing import Any
 
 from motesim.command import command
@@ -35,8 +36,9 @@ from project.mutants.edits import Edit, edits_of, groups
 from project.tree import commit
 
 GATE = 'gate-bodies'
-# The gate tries at most one of so many mutants, and at most so many batches, each of which one check judges.
-SHARE, MOST_BATCHES = 20, 5
+# The most processor seconds that the gate's mutants may need; the checks of a batch, that of the control and that of the
+# harmless twins included; and the processor seconds of a check of which the log says nothing.
+SECONDS, CHECKS, UNKNOWN_SECONDS = 480, 3, 60
 
 
 def words() -> argparse.Namespace:
@@ -45,8 +47,8 @@ def words() -> argparse.Namespace:
     asked.add_argument('--changed', action='store_true',
                        help='leave out mutants that were refused, or left open, with exactly the same texts')
     asked.add_argument('--gate', action='store_true',
-                       help="try the gate's choice: at most a twentieth of all mutants that aren't known to be open, "
-                            "in at most %d checks, first those in %s that have changed" % (MOST_BATCHES, GATE))
+                       help="try the gate's choice: batches that need at most %d processor minutes by the log, first those "
+                            "with mutants in %s that have changed" % (SECONDS // 60, GATE))
     asked.add_argument('names', nargs='*', metavar='CRATE or CRATE/NAME', help='crates, or mutants (all)')
     found: argparse.Namespace = asked.parse_args()
     return found
@@ -79,15 +81,27 @@ def without_open(edits: Sequence[Edit]) -> list[Edit]:
             or kept[it.name].digest != log.digest(it)]
 
 
+def affordable(of_gate: Sequence[list[Edit]]) -> list[Edit]:
+    """The mutants of these batches, without the batches that would exceed the processor seconds."""
+    seconds, left, chosen = log.seconds(), SECONDS, list[Edit]()
+    for batch in of_gate:
+        needed = CHECKS * seconds.get(batch[0].crate.name, UNKNOWN_SECONDS)
+        if needed <= left:
+            left -= needed
+            chosen += batch
+    return chosen
+
+
 def of_gate(edits: Sequence[Edit]) -> list[Edit]:
-    """The mutants that the gate tries, without those that are known to be open: a twentieth at most, of few crates,
-    and first those of the gate that have changed."""
+    """The mutants that the gate tries, without those that are known to be open: batches that need at most so many
+    processor seconds by the log, and first those with mutants of the gate that have changed."""
     seed, new = commit(), log.changed(it for it in edits if it.file.parent.name == GATE)
     decided = [*dict.fromkeys([*without_open(edits), *new])]
-    chosen = [*chain(*batches(decided, new, seed)[:MOST_BATCHES])][:math.ceil(len(decided) / SHARE)]
-    print('%d of %d in %s that have changed, and %d others, chosen by the commit %s; open, and not tried: %d' % (
+    chosen = affordable(batches(decided, new, seed))
+    dear = sorted(crate for crate, it in log.seconds().items() if CHECKS * it > SECONDS)
+    print('%d of %d in %s that have changed, and %d others, chosen by the commit %s; not tried: %d that are open%s' % (
         len([it for it in chosen if it in new]), len(new), GATE, len([it for it in chosen if it not in new]), seed[:8],
-        len(edits) - len(decided)), flush=True)
+        len(edits) - len(decided), ''.join(', and those of %s, of which a batch needs too long' % it for it in dear)), flush=True)
     return [it for it in edits if it in chosen]
 
 
@@ -106,28 +120,40 @@ def print_verdicts(found: Mapping[Edit, Verdict]) -> None:
         print(': '.join(it for it in (edit.name, shown, function, why[:200]) if it), flush=True)
 
 
-def judge(trial: Trial, group: Sequence[Edit], _jobs: int) -> dict[Edit, Verdict]:
-    found = trial.verdicts(group)
-    print_verdicts(found)
-    return found
+def processor_seconds() -> float:
+    """The processor seconds of the checks that have ended."""
+    return os.times().children_user + os.times().children_system
 
 
-def judge_all(edits: Sequence[Edit]) -> dict[Edit, Verdict]:
-    """Tries these mutants, and returns the verdict on each."""
-    tasks: dict[Any, kit.Task] = {}
+def tasks_of(trial: Trial, end: Callable[[Trial, int], None]) -> dict[Any, kit.Task]:
+    """The control, the groups of mutants, and the end of a trial."""
+    crate, name = trial.crate, trial.crate.name
+    judged = {(name, 'edits', number): kit.Task(crate, [(name, 'seed')], partial(trial.judge, group))
+              for number, group in enumerate(groups(trial.edits))}
+    return {(name, 'seed'): kit.Task(crate, [], trial.control), **judged,
+            (name, 'end'): kit.Task(crate, [*judged], partial(end, trial))}
+
+
+def judge_all(edits: Sequence[Edit], every: Sequence[Edit]) -> dict[Edit, Verdict]:
+    """Tries these mutants among all, notes the verdicts on those of a crate as soon as it's done, and returns all."""
     found = {it: Verdict(UNKNOWN, '', "it can't be applied: " + it.trouble) for it in edits if it.trouble}
+    trials = [Trial([*of_crate]) for _, of_crate in groupby((it for it in edits if not it.trouble), lambda it: it.crate)]
+    before, one_at_a_time = processor_seconds(), Lock()
+
+    def end(trial: Trial, jobs: int) -> None:
+        trial.end(jobs)
+        with one_at_a_time:
+            # (on a busy machine a check takes longer than its processor seconds)
+            share = (processor_seconds() - before) / (sum(sum(it.seconds) for it in trials) or 1)
+            print_verdicts(trial.found)
+            log.note(trial.found, every, {trial.crate.name: math.ceil(share * max(trial.seconds))})
+
     print_verdicts(found)
-    for crate, of_crate in groupby((it for it in edits if not it.trouble), lambda it: it.crate):
-        tried = [*of_crate]
-        trial, seed, end = Trial(tried), (crate.name, 'seed'), (crate.name, 'end')
-        judged = {(crate.name, 'edits', number): kit.Task(crate, [seed], partial(judge, trial, group))
-                  for number, group in enumerate(groups(tried))}
-        tasks[seed] = kit.Task(crate, [], trial.control)
-        tasks |= judged
-        tasks[end] = kit.Task(crate, [*judged], trial.forget)
-    for verdicts in kit.in_lanes(tasks).values():
-        found |= verdicts or {}
-    return found
+    log.note(found, every, {})
+    kit.in_lanes({key: task for trial in trials for key, task in tasks_of(trial, end).items()})
+    used = processor_seconds() - before
+    print('%d processor seconds, %d for each mutant' % (used, used / max(1, len(edits))))
+    return found | {edit: it for trial in trials for edit, it in trial.found.items()}
 
 
 def report(found: Mapping[Edit, Verdict]) -> int:
@@ -157,7 +183,6 @@ def main() -> int:
         chosen = log.changed(chosen)
     use_libraries = check_libraries if asked.built else kit.build_libraries
     use_libraries(list({it.crate.name: it.crate for it in chosen}.values()))
-    found = judge_all(chosen)
-    log.note(found, edits)
+    found = judge_all(chosen, edits)
     public.note()
     return 1 if report(found) else 0

@@ -279,6 +279,5 @@ class InBrowser(unittest.TestCase):
 
     def put(self, text: str) -> None:
         """Replaces the whole text of the page, as a paste does."""
-        self.press('part-all')
         self.value('(it => { it.focus(); it.value = %s; it.dispatchEvent(new Event("input")); })(by("text"))'
                    % json.dumps(text))

@@ -4,7 +4,6 @@ import io
 import shutil
 import subprocess
 import sys
-import tempfile
 import unittest
 from pathlib import Path
 from unittest import mock
@@ -38,26 +37,6 @@ class Scenarios(unittest.TestCase):
 
 
 class Host(unittest.TestCase):
-    """Instructions, against compiled C. A stand-in counts."""
-
-    def said(self, report: bytes) -> tuple[str, bool]:
-        said = io.StringIO()
-        with tempfile.TemporaryDirectory() as room, contextlib.redirect_stdout(said), \
-                mock.patch.object(bench, 'HostRuns') as host, \
-                mock.patch.object(bench, 'compilers', return_value=('gcc', 'tcc')), \
-                mock.patch.object(bench, 'instructions_of', side_effect=[(3_000_000, b'left 0'), (2_000_000, report)]):
-            is_same = bench.measure_host(['timers'], str(Path(room) / 'motesim'))
-            self.assertEqual(host.return_value.build.call_args.args[2:], ('gcc', ('-O2',)))
-        return said.getvalue(), is_same
-
-    def test_a_line_has_both_and_their_ratio(self) -> None:
-        self.assertEqual(self.said(b'left 0'), ('timers      motesim 3.0 M, compiled C 2.0 M: 1.50\n', True))
-
-    def test_a_report_that_differs_is_told(self) -> None:
-        said, is_same = self.said(b'left 1')
-        self.assertFalse(is_same)
-        self.assertTrue(said.endswith('1.50  THE REPORTS DIFFER\n'))
-
     @unittest.skipUnless(shutil.which('valgrind'), 'there is no Valgrind')
     def test_instructions_are_counted(self) -> None:
         count, report = bench.instructions_of(['/bin/echo', 'x'])
@@ -65,10 +44,6 @@ class Host(unittest.TestCase):
         self.assertEqual(report, b'x\n')
         with self.assertRaisesRegex(Fault, '/bin/false ended with status 1'):
             bench.instructions_of(['/bin/false'])
-
-    def test_without_valgrind(self) -> None:
-        with mock.patch('shutil.which', return_value=None), self.assertRaisesRegex(Fault, 'apt-get install valgrind'):
-            bench.instructions_of(['/bin/echo'])
 
 
 class Ratios(unittest.TestCase):

@@ -15,7 +15,7 @@ from here import TOP, call, room_of
 from motesim.judge.claims import Claims, NoClaim
 from motesim.judge.names import names_of
 from motesim.judge.sentences import read_sentence
-from motesim.report.run import run_program
+from motesim.report.run import answer
 from motesim.scenario import Scenario
 from page_judge import PageJudge
 from page_sentences import Sentences, running_net_of
@@ -45,7 +45,7 @@ class Verdicts(unittest.TestCase):
         for seed in NETS:
             chance = random.Random(seed)
             text, motes = running_net_of(chance)
-            report = run_program(text.encode()).decode()
+            report = answer(text.encode()).report.decode()
             scenario, page = Scenario.parse(text), PageJudge(text, report)
             names, claims = names_of(scenario), Claims(scenario)
             said, rows = list[tuple[str, bool, int]](), list[str]()
@@ -69,7 +69,7 @@ class Verdicts(unittest.TestCase):
         for seed in NETS:
             chance = random.Random(seed)
             text, motes = running_net_of(chance)
-            report = run_program(text.encode()).decode()
+            report = answer(text.encode()).report.decode()
             lines = [it for its in judge_of(text.encode(), report).traces for it in its]
             texts = ClaimTexts(chance, motes, [it.value for it in lines if it.value is not None])
             rows = [texts.claim() for _ in range(CLAIMS)]

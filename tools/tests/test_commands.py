@@ -8,12 +8,11 @@ from pathlib import Path
 
 from here import TOOLS, TOP, call, text_of
 from motesim.home import VERBS
-from motesim.commands import export, search, shrink, studio, sweep
+from motesim.commands import export, search, shrink, sweep
 from motesim.experiments import asked
 from motesim.export.command import ENDS
 from motesim.runner.programs import CHECKER, PROGRAM
 from motesim.surveys.searching import LIMITS
-from motesim.studio import runs
 from skips import need_built
 
 # (an installation has more verbs: in a clone, ./run runs a scenario)
@@ -89,7 +88,5 @@ class Commands(unittest.TestCase):
 
     def test_defaults_are_those_of_the_libraries(self) -> None:
         self.assertEqual((search.SECONDS, search.REPORT << 20, shrink.SECONDS), (LIMITS.seconds, LIMITS.report, LIMITS.seconds))
-        megabytes = [it // runs.MEGABYTE for it in (runs.LIMITS.memory, runs.LIMITS.report)]
-        self.assertEqual([studio.SECONDS, studio.MEMORY, studio.REPORT], [runs.LIMITS.seconds, *megabytes])
         self.assertEqual(sweep.REPORT << 20, asked.MOST_BYTES)
         self.assertEqual(export.FORMS, tuple(ENDS))

@@ -3,7 +3,7 @@ import os
 import subprocess
 
 from here import SECONDS, TOOLS, TOP, Room, call, text_of
-from motesim.export import pcapng, times
+from motesim.export import pcapng
 from motesim.report import Report
 from skips import interpreter_with, need
 from test_report import EXAMPLE_REPORT
@@ -36,11 +36,10 @@ class ExportTest(Room):
         return done.stdout
 
     def test_lines_of_a_turn_stand_apart_and_within_their_moment(self) -> None:
-        lines = ''.join('3 print a %d\n' % (number % 7) for number in range(5_000))
-        mote = Report.parse('mote 0 p\n0 start a\n%s4 print a 1\nmedium\nleft 0\n' % lines).motes[0]
-        turns = list(times.turns(mote))
-        self.assertEqual([(it.begin, it.step) for it in turns], [(0, 1_000), (3_000_000, 199), (4_000_000, 1_000)])
-        self.assertLess(turns[1].time(5_000), turns[2].begin)
+        lines = ''.join('3 send %d 7\n' % number for number in range(5_000))
+        found = pcapng.times_of(Report.parse('mote 0 p\n2 start a\n%s4 send 5000 7\nmedium\n%sleft 0\n' % (
+            lines, ''.join('%d 0 %d 7\n' % (3 + (it == 5_000), it) for it in range(5_001)))))
+        self.assertEqual([found[0, 0, it] for it in (0, 1, 4_999, 5_000)], [3_000_000, 3_000_199, 3_994_801, 4_000_000])
 
     def test_wireshark_reads_the_packets(self) -> None:
         need('tshark', 'tshark')

@@ -17,6 +17,7 @@ MOVED = {
     'packet 5 of mote 3 is 4 late on the way to mote 2': ('packet 5 of mote 2 is 4 late on the way to mote 1', None),
     'mote 2 is off from 40 on': ('mote 1 is off from 40 on', None),
     'mote 0 is off from 0 to 2': ('mote 0 is off from 0 to 2',) * 2,
+    'mote 3 restarts at 2': ('mote 2 restarts at 2',) * 2,
 }
 
 

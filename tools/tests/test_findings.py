@@ -10,25 +10,27 @@ CALLS = ('starts?with|ends?with|removeprefix|removesuffix|r?partition|r?split|r?
 SOUGHT = re.compile(r'''(?:\.(?:(?i:%s))\(\(?[rb]*|[=(\[,:] ?(?=/))(?!/[/ *])(['"`/])((?:\\.|(?!\1).)+)\1'''
                     r'''|(['"])([^'"]+)\3 (?:not )?in ''' % CALLS)
 # The parts of a pattern that aren't words; and a word with a blank, a bracket or a colon beside it.
-MARKS = re.compile(r'\(\?(?:P<\w+>|[:=!<]+)|\\(?:u\w{4}|[a-zA-Z])|\[[^]]*\]|%[ds]')
+MARKS = re.compile(r'\(\?(?:P?<\w+>|[:=!<]+)|\\(?:u\w{4}|[a-zA-Z])|\[[^]]*\]|%[ds]')
 IS_SENTENCE = re.compile('[a-z]{2}[:,]? |[ (][a-z]{2}|: *$')
 # The words of reports; and the words of texts of motesim and motecheck, of users, and of files and code.
-OF_REPORTS = set('mote medium left print send recv lost collide drop start leave take post full busy halt'.split())
+OF_REPORTS = set('mote medium left print send recv lost collide drop start leave take post full busy halt '
+                 'boots'.split())
 # The words of programs.
 OF_PROGRAMS = set('var if while code body thread onpoll onexit print send set yield wait until stop exit'.split())
 OF_OTHERS = {
     'motesim', 'scenario fault', 'program fault line', 'motesim program fault line', 'broken', 'if',
+    'motesim scenario fault medium fault',
     'covered all sets of at most of faults', 'and', 'never', 'no mote', 'else block',
     'true false', 'script id saved', 'event semaphore process', 'export', 'export const function async function class',
     'plan', 'at line column end of document', 'static unsigned u int t u int bool char let const', 'end',
     'claims fault line column', 'expect faults', 'expect', 'fault', 'motecheck'}
 # The words of faults.
-OF_FAULTS = set('link mote packet from to of is broken silent lost late off on the way number'.split())
+OF_FAULTS = set('link mote packet from to of is broken silent lost late off restarts at on the way number'.split())
 # The words of claims, and of motecheck's answers.
 OF_MOTECHECK = {
     'the lines print process have in order of time exactly the values', 'at least line print process value',
     'the lines print process have in any order exactly the values', 'at least line send value',
-    'at least line recv sender value', 'exactly lines halt', 'each of motes mote', 'the net', 'to', 'holds broken',
+    'at least line recv sender value', 'exactly lines halt', 'each of motes mote', 'the net', 'to', 'holds broken by',
     'unused', 'line of mote at', 'for mote', 'from to at', 'line', 'missing superfluous',
     'covered before the limit runs', 'covered nothing all sets of at most of faults before the limit runs',
     'covered nothing all sets of at most of faults',

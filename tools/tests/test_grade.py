@@ -1,6 +1,5 @@
 """Marks for a folder of solutions: what no table of sessions has, as hostile folders, signals, and errors in the tool.
 The other tests are in sessions/grade.toml."""
-import argparse
 import contextlib
 import os
 import re
@@ -16,14 +15,12 @@ import pytest
 from here import SECONDS, TOOLS, call, rows_of, until
 from motesim.faults import Fault
 from motesim.grading import tables
-from motesim.grading.command import remarks
 from motesim.grading.entries import Entry, data_of, entries_of
 from motesim.grading.marking import Task, page_name
 from motesim.grading.marks import Mark, Marks
-from motesim.grading.nets import cut_off, nets_of, program_of
+from motesim.grading.nets import nets_of, program_of
 from motesim.grading.page import page_of
 from motesim.grading.tables import cell
-from motesim.grading.warned import warned_of
 from motesim.judge.expectations import parts_of
 from motesim.report.run import Answer
 from motesim.runner import Limits
@@ -72,10 +69,6 @@ class Class:
 @pytest.fixture
 def room(tmp_path: Path) -> Class:
     return Class(tmp_path)
-
-
-def loss(s: int, r: int, every: int = 1) -> str:
-    return '[[loss]]\nfrom = %d\nto = %d\nevery = %d\n' % (s, r, every)
 
 
 def test_whatever_there_is_becomes_a_row_and_none_stops_the_others(room: Class) -> None:
@@ -131,26 +124,6 @@ def test_the_net_stays_as_it_is() -> None:
     assert vars(after) == {**vars(before), 'text': after.text, 'programs': {**before.programs, 'sender': 'process other;'}}
 
 
-def test_motes_are_cut_off_if_each_link_to_them_loses_everything() -> None:
-    one, two, four = NET[:NET.rindex('[[mote]]')], NET, TEXTS['net4']
-    both, moved = loss(1, 2) + loss(2, 1), TEXTS['net4'].replace('x = 30', 'x = 41')
-    for text, motes in ((four, []), (four + loss(3, 2), []), (four + loss(2, 3, 2), []), (four + loss(1, 2), []),
-                        (four + loss(2, 3), [3]), (four + loss(1, 2) + loss(3, 2), [2]),
-                        (four + loss(1, 0) + loss(2, 3), [0, 3]), (four + both, [2, 3]), (moved, [3]),
-                        (moved + both, [2, 3]), (one, []), (two + loss(1, 0) + loss(0, 1), [0, 1])):
-        assert cut_off(Scenario.parse(text)) == motes, text
-
-
-def test_combinations_without_a_net_are_counted(room: Class) -> None:
-    for name, text in ('net.plan.toml', TEXTS['plan']), ('task.mote', PROGRAM):
-        (room.top / name).write_text(text)
-    words = argparse.Namespace(folder=room.folder, param=['motes=2..4', 'seed=1..2'])
-    with mock.patch('motesim.grading.nets.MOST_NETS', 4):
-        assert len(nets_of([room.top / 'net.plan.toml'], ['motes=1..6'], None)) == 4
-        assert [re.findall(r'\d+', it) for it in remarks(words, [], [])] == [['6', '4', '2']]
-    assert remarks(words, [], []) == []
-
-
 def test_no_two_pages_fill_the_same_folder() -> None:
     # (readers may follow several pages in one clone, and a folder of solutions has a row for each file)
     filled = [folder for page in sorted((TOOLS.parent / 'docs/use').glob('*.md'))
@@ -163,40 +136,6 @@ def test_no_two_pages_fill_the_same_folder() -> None:
 def test_why_names_some_nets_and_the_one_of_its_reason(count: int, nets: str) -> None:
     mark = Mark('mote 0 prints a 1', False, tuple('n%d.toml' % it for it in range(1, count + 1)), ('none',))
     assert [it.strip() for it in tables.why(Marks('ben', (mark,)))[1:]] == [nets, 'none']
-
-
-def test_the_pages_of_a_marking_that_was_killed_are_removed_by_the_next(room: Class) -> None:
-    room.hand_in('ben.toml', WRONG)
-    room.hand_in('other net.toml', WRONG.replace('code a', '// wait\ncode a'))
-    folder = room.top / 'marks_runs'
-    with room.begun('--jobs', '1', '-o', 'marks.html'):
-        assert until((folder / 'ben.toml.html').exists)
-    assert 'ben.toml.html\n' in (folder / 'pages.txt').read_text()
-    (folder / 'mine.html').write_text('a page of the teacher')
-    with open(folder / 'pages.txt', 'a') as names:
-        names.write('../task.toml\n')
-    for name in 'ben.toml', 'other net.toml':
-        (room.folder / name).unlink()
-    room.grade('-o', 'marks.html')
-    assert sorted(os.listdir(folder)) == ['mine.html', 'pages.txt'] and (room.top / 'task.toml').exists()
-
-
-def test_no_link_of_a_student_is_followed(room: Class) -> None:
-    precious, runs = room.top / 'precious.txt', room.folder / 'marks_runs'
-    precious.write_text('precious')
-    runs.mkdir()
-    room.hand_in('mallory.toml', WRONG)
-    for name in ('marks_runs/mallory.toml_in_task.toml.html', 'marks_runs/pages.txt', 'marks.html', 'marks.csv',
-                 'marks.html.new', 'marks.csv.new'):
-        (room.folder / name).symlink_to(precious)
-    words = '--net', 'task.toml', '-o', 'class/marks.html', '-o', 'class/marks.csv'
-    room.grade(*words)
-    assert precious.read_text() == 'precious' and not (room.folder / 'marks.csv').is_symlink()
-    assert 'mallory.toml' in (runs / 'mallory.toml_in_task.toml.html').read_text()
-    runs.rename(room.top / 'moved')
-    runs.symlink_to(room.top)
-    room.grade(*words, status=2)
-    assert 'class/marks_runs is a link' in room.seen
 
 
 def test_no_two_pages_have_one_name() -> None:
@@ -252,8 +191,6 @@ def test_an_error_in_a_hint_changes_no_mark(room: Class) -> None:
                 marks = task.of((1, Entry('ben.mote', path)))
             assert (marks.has_mark, marks.held) == (True, 0)
             assert 'IndexError: of a tuple' in ' '.join(marks.fix) or failing.endswith('file')
-    with mock.patch('motesim.grading.warned.of_program', side_effect=failed):
-        assert warned_of({'task': PROGRAM}, '') == ()
 
 
 def test_a_page_is_escaped() -> None:

@@ -16,7 +16,7 @@ REPORT = text_of('log.report')
 
 def test_the_order_is_by_moment_then_by_mote() -> None:
     report = Report.parse(REPORT)
-    assert [*rows_of(REPORT.encode(), report, Filter().lines(report))] == [
+    assert [*rows_of(report, Filter().lines(report))] == [
         (0, 0, 2, 'start take'), (1, 1, 8, 'start b'), (2, 0, 3, 'post 0 take msg 7'), (2, 0, 4, 'take 0 take'),
         (2, 0, 5, 'print take 3'), (2, 1, 9, 'print b 7'), (2, 1, 10, 'full b com 3'), (5, 0, 6, 'send 0 3'),
         (9, 1, 11, 'recv 0 0 3')]
@@ -29,7 +29,7 @@ def test_the_order_is_by_moment_then_by_mote() -> None:
 def test_filters(it: Filter, lines: list[int]) -> None:
     """Each filter with the lines of the report that it leaves."""
     report = Report.parse(REPORT)
-    assert [row for _, _, row, _ in rows_of(REPORT.encode(), report, it.lines(report))] == lines
+    assert [row for _, _, row, _ in rows_of(report, it.lines(report))] == lines
 
 
 def test_lists() -> None:
@@ -53,7 +53,7 @@ BY_HOPS = [(40, 0), (43, 1)]
 def test_sentences(sentence: str, lines: list[tuple[int, int]]) -> None:
     need_built()
     data = (TOP / 'examples/flooding.toml').read_bytes()
-    source = Source('flooding', answer(data).report, Scenario.parse(data))
+    source = Source('flooding', Report.parse(answer(data).report), Scenario.parse(data))
     trace, found = source.traces.report.trace, of_sentence(source, sentence, Filter())
     log = [(trace.at[it], trace.mote[it]) for it in found]
     assert log[:len(lines)] == lines and ('hop' in sentence or len(log) == len(lines))

@@ -134,9 +134,9 @@ class Edits(unittest.TestCase):
             return
         steps = list(programs(read))
         for step in steps[::max(1, len(steps) // 25)]:
-            small = program_text(step.program)
+            small = program_text(step)
             fault = find_fault(small)
             # (a name may be gone that is used, or the last process)
-            self.assertIn(fault and fault.kind, (None, 3), (step.words, fault))
+            self.assertIn(fault and fault.kind, (None, 3), (small, fault))
             if fault is None:
                 self.assertEqual(program_text(read_program(small)), small)

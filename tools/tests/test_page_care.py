@@ -24,7 +24,7 @@ class Sentences(InPage):
         self.open()
         self.type_over('send newest', 'send newst')
         self.wait('!by("fault").hidden')
-        self.assertIn('has an error in line 15', self.said())
+        self.assertIn('has an error in line 28', self.said())
         self.later()
         self.type_over('send newst', 'send newest')
         self.wait('by("fault").hidden')
@@ -33,7 +33,6 @@ class Sentences(InPage):
 
     def test_an_effect_is_said_across_an_error(self) -> None:
         self.open()
-        self.press('part-all')
         self.type_over('every = 2', 'every = ')
         self.wait('!by("fault").hidden')
         self.later()
@@ -46,8 +45,6 @@ class Sentences(InPage):
         self.put(WRONG)
         self.wait('!by("fault").hidden')
         self.assertIn('in line %d:' % (WRONG[:WRONG.index('newst;')].count('\n') + 1), self.said())
-        self.press('part-program')
-        self.assertIn('in line 15:', self.said())
         self.put(FLOODING.replace('base = 3', 'base = 0'))
 
     def test_a_net_of_a_link_says_what_it_is(self) -> None:
@@ -134,7 +131,6 @@ class Texts(InPage):
 
     def test_a_closing_brace_goes_back_to_its_block(self) -> None:
         self.open()
-        self.press('part-all')
         self.value('(it => { it.focus(); it.select(); })(by("text"))')
         self.browser.type('code a {')
         self.key('Enter')
@@ -144,6 +140,23 @@ class Texts(InPage):
             self.browser.key('}', 'BracketRight', 221)
             self.key('Enter')
         self.assertEqual(self.value('by("text").value'), 'code a {\n  body {\n  }\n}\n')
+
+    def test_names_that_begin_as_a_word_does_are_listed_while_it_is_typed(self) -> None:
+        self.open()
+        self.value('(it => { it.focus(); const at = it.value.indexOf("\\n", it.value.indexOf("set next 40")); '
+                   'it.setSelectionRange(at, at); })(by("text"))')
+        self.browser.type(' send ne')
+        self.assertEqual(self.value('[...by("names").children].map(it => it.textContent)'), ['newest', 'next'])
+        self.key('ArrowDown')
+        self.key('Tab')
+        self.assertIn('set next 40; send next', self.value('text'))
+        self.assertTrue(self.value('by("names").hidden'))
+
+    def test_a_bracket_is_marked_with_its_partner(self) -> None:
+        self.open()
+        self.value('(it => { it.focus(); const at = it.value.indexOf("(newest < 3"); it.setSelectionRange(at, at); })('
+                   'by("text"))')
+        self.wait('[...document.querySelectorAll(".bracket-mark")].map(it => it.textContent).join("") === "()"')
 
 
 class Answers(InPage):

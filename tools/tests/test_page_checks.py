@@ -32,8 +32,12 @@ class Checks(InPage):
         self.surveyed()
         self.assertIn('# expect: %s\n' % GOAL, self.value('text'))
         self.assertEqual(self.tab(), 'Checks 1/1 · 4 faults break it')
+        # (the middle of the breaking link is red on the map)
+        self.assertTrue(self.value('(map => { const [x0, y0, x1, y1] = map.way(0, 5), d = map.dots, {data} = '
+                                   'map.context.getImageData((x0 + x1) / 2 * d - 3, (y0 + y1) / 2 * d - 3, 6, 6); return '
+                                   '[...data].some((it, i) => i % 4 === 0 && it > 150 && data[i + 1] < 100); })(m.maps[0])'))
         self.assertRegex(self.value('by("tried").textContent'),
-                         r'^Covered all sets of at most 1 faults in 345 runs, [\d,]+ ms: 4 break it\.$')
+                         r'^Covered: each single fault of these kinds, by 345 runs in [\d,]+ ms\. 4 break it\.$')
         self.assertIn('Every mote but 0 prints just flood 1, 2, 3, but link 0 to 5, mote 0, mote 5 or packet 1 of mote 0 to '
                       'mote 5 alone can break it.', self.said())
         self.undo()
@@ -49,7 +53,7 @@ class Checks(InPage):
             claims = self.value('[...by("suggested").querySelectorAll("button")].map(it => it.title)')
             self.put(''.join('# expect: %s\n' % it for it in claims) + text)
             self.wait('m.checks.items.length === %d' % len(set(claims)))
-            self.assertEqual(self.value('m.checks.items.flatMap(it => it.verdicts).filter(it => !it.holds)'), [], text[:80])
+            self.assertEqual(self.value('m.checks.items.flatMap(it => it.verdicts).filter(it => it.verdict !== "holds")'), [], text[:80])
 
     def test_a_fault_becomes_a_part_of_the_run_and_says_why(self) -> None:
         self.open(fragment(CHECKED))
@@ -99,10 +103,9 @@ class Checks(InPage):
         self.press('tab-checks')
         self.press('try-pairs')
         self.wait('m.checks.pairs')
-        self.assertEqual(self.value('m.checks.pairs.sets.length'), 6)
-        self.assertIn('Covered all sets of at most 2 of 80 faults in', self.value('by("tried").textContent'))
+        self.assertEqual(self.value('m.checks.pairs.claims[0].sets.length'), 6)
+        self.assertIn('Covered: each fault of these kinds and each pair, by ', self.value('by("tried").textContent'))
         self.assertIn('link 2 to 1 + link 6 to 1', self.value('by("breaking").textContent'))
-        self.press('part-all')
         self.value('by("text").focus()')
         self.press('try-pairs') if self.value('!by("try-pairs").hidden') else None
         self.browser.type('#\n')

@@ -38,7 +38,6 @@ class Errors(InPage):
 
     def test_a_text_that_is_no_toml_has_its_place(self) -> None:
         self.open()
-        self.press('part-all')
         self.put(FLOODING.replace('end = 160', 'end = = 160'))
         self.wait('!by("fault").hidden')
         row = FLOODING[:FLOODING.index('end = 160')].count('\n') + 1

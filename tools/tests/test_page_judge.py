@@ -34,7 +34,7 @@ class Verdicts(unittest.TestCase):
             scenario, report, motes = net_of(chance)
             page, its = PageJudge(scenario, report), Scenario.parse(scenario)
             whole = Finder(Report.parse(report), its)
-            names, sentences, asker = names_of(its), Sentences(chance, motes), Asker(Source('test', report.encode(), its))
+            names, sentences, asker = names_of(its), Sentences(chance, motes), Asker(Source('test', Report.parse(report), its))
             for text, meaning in (sentences.sentence() for _ in range(SENTENCES)):
                 with self.subTest(seed=seed, sentence=text), suppress(NoClaim), deciding_by(report):
                     sentence, holds = read_sentence(text, names), page.holds(meaning)

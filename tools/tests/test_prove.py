@@ -8,7 +8,7 @@ from pathlib import Path
 from typing import Any
 from unittest import mock
 
-from here import SECONDS, Room, until  # (it puts tools/ on the path)
+from here import SECONDS, TOP, Room, until  # (it puts tools/ on the path)
 from project import prove
 from project.running import started
 from skips import long
@@ -90,7 +90,8 @@ class Proof(Tree):
         self.assertEqual(done.returncode, 0, done.stderr)
         self.assertIn('everything is proved', done.stderr)
         self.assertEqual(self.kept(), ['proved', 'proved-motesim'])
-        self.assertEqual((self.run_it(self.link).returncode, self.run_it(self.link).stderr), (0, ''))
+        done = self.run_it(self.link, TOP / 'examples/two_motes.toml')
+        self.assertEqual((done.returncode, done.stderr), (0, ''))
         self.assertIn('built already', self.run_it(self.top / 'prove').stderr)
 
     def test_what_is_not_proved_is_shown(self) -> None:

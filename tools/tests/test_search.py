@@ -18,13 +18,10 @@ from here import HOLDS, SECONDS, TOOLS, call, until
 from motesim.faults import Fault
 from motesim.judge.expectations import beside
 from motesim.report.run import program_path
-from motesim.runner.interrupt import Break
 from motesim.runner.programs import CHECKER
 from motesim.scenario import Scenario
 from motesim.surveys.cuts import Cuts, broken_by
-from motesim.surveys.progress import ProgressOfSearch
 from motesim.surveys.searching import LIMITS, MOST_MEASURED, Asked, found_in, search_of
-from motesim.surveys.shrink_command import Allowance
 from motesim.surveys.survey import Bounds, Survey, minimal, read_survey
 from sessions import TABLES, Table
 from skips import need_built
@@ -123,19 +120,6 @@ def test_a_cut_has_each_way_that_no_path_replaces() -> None:
 
 
 # Limits, and ends by a signal.
-
-def test_the_limits_also_end_the_shrinking() -> None:
-    need_built()
-    with folder_with() as folder:
-        small = folder / 'found/small_1.toml'
-        words = ['--silent', '--shrink', '-o', 'found']
-        for limit, said_of_it in (7, 'NOT MADE SMALL'), (16, 'STOPPED'), (4000, ''):
-            status, said, _ = search(folder, *words, '--most-runs', str(limit))
-            assert (status, small.exists()) == (1, limit > 7)
-            assert [it in said for it in ('NOT MADE SMALL', 'STOPPED')] == [
-                it == said_of_it for it in ('NOT MADE SMALL', 'STOPPED')], said
-    assert Allowance(0.0, None, Break(), ProgressOfSearch()).why_over(1)
-
 
 def test_a_run_that_reaches_a_limit_has_no_file() -> None:
     """A mote that misses the message prints 3,000 lines at each of a thousand moments."""

@@ -6,7 +6,6 @@ import sys
 import tomllib
 from pathlib import Path
 from typing import Any
-from unittest import mock
 
 import pytest
 from claim_judge import deciding_by
@@ -26,11 +25,10 @@ from motesim.scenario.fault_text import read_faults
 from motesim.scenario.scenario import Scenario
 from motesim.surveys.following import follow
 from motesim.surveys.net import loss_steps, mote_steps, net_of, number_steps, parts, program_steps, without_motes
-from motesim.surveys.searching import LIMITS, Found
-from motesim.surveys.shrink import Shrinking, case_of, parts_and_sentences
+from motesim.surveys.searching import LIMITS
+from motesim.surveys.shrink import Case, Shrinking
 from motesim.surveys.shrink_command import STOPPED
-from motesim.surveys.shrink_found import chosen
-from motesim.surveys.smaller import smaller_numbers
+from motesim.surveys.smaller import smaller_numbers, without_process
 from motesim.causes.cause import Cause, cause_of
 from motesim.causes.source import Source
 from sessions import TABLES, Table
@@ -64,8 +62,7 @@ def test_smaller_numbers_and_parts() -> None:
 
 def test_a_process_goes_with_all_that_names_it() -> None:
     net = net_of(Scenario.parse(diamond_of(ALL)))
-    found = {step.words: dict(step.net.programs)['p'] for step in program_steps(net)}
-    text = program_text(found['p: removes the process b'])
+    text = program_text(without_process(net.programs[0][1], 'b'))
     assert 'process a;\nautostart a;\ncode a {' in text and 'if (0 && 0) {' in text
     assert not any(word + ' ' in text for word in ('receiver', 'post', 'synch', 'poll b'))
 
@@ -128,7 +125,7 @@ def test_no_single_step_more_is_possible(program: Runner) -> None:
     # Both ways of the diamond are cut, in a net that has two motes more; mote 3 hears nothing.
     text = DIAMOND + ''.join('[[mote]]\nx = %d\ny = 40\nprogram = "p"\n' % (5 * it) for it in (0, 1))
     text += ''.join('[[loss]]\nfrom = %d\nto = %d\nevery = 1\n' % it for it in ((0, 1), (2, 3), (3, 2)))
-    shrinking = Shrinking(program, case_of(Scenario.parse(text), REACHED, (), ('mote 2 prints flood 7',)))
+    shrinking = Shrinking(program, Case(net_of(Scenario.parse(text)), REACHED, (), ('mote 2 prints flood 7',)))
     shrinking.run()
     net, (sentence, kept) = shrinking.case.net, (shrinking.case.sentence, *shrinking.case.keeps)
     # Motes 0, 2 and 3 are named or needed, and mote 3 has only to be out of reach.
@@ -141,14 +138,14 @@ def test_no_single_step_more_is_possible(program: Runner) -> None:
         if its is not None and other is not None:
             found = way(step.net.text, its)
             is_kept = answer(step.net.text.encode()).status == 0 and way(step.net.text, other) is None
-            assert not (found and is_kept and found[0] == first[0] and found[1] <= first[1]), step.words
+            assert not (found and is_kept and found[0] == first[0] and found[1] <= first[1]), step.net.text
     assert tried > 10
 
 
 def test_faults_stay_what_breaks_it(program: Runner) -> None:
     # Without the fault the message arrives, with it it doesn't, in the small scenario too.
     more = Scenario.parse(DIAMOND + '[[mote]]\nx = 18\ny = 6\nprogram = "p"\n')
-    shrinking = Shrinking(program, case_of(more, REACHED, [*SILENT, *read_faults(['mote 4 is silent'])]))
+    shrinking = Shrinking(program, Case(net_of(more), REACHED, (*SILENT, *read_faults(['mote 4 is silent']))))
     shrinking.run()
     case = shrinking.case
     assert way(case.net.text, case.sentence) is None and way(case.net.text, case.sentence, 'mote 0 is silent') is not None
@@ -158,21 +155,10 @@ def test_faults_stay_what_breaks_it(program: Runner) -> None:
 def test_lines_that_are_only_late_are_not_missing(program: Runner) -> None:
     own = 'process p;\nautostart p;\ncode p { etimer t; body { set t 50; yield_until fired(t); %s } }\n'
     texts = [diamond_of(own % it) for it in ('if (self == 0) { print 1; }', 'print 1;')]
-    shrinking = Shrinking(program, case_of(Scenario.parse(texts[0]), 'mote 1 prints'))
+    shrinking = Shrinking(program, Case(net_of(Scenario.parse(texts[0])), 'mote 1 prints'))
     for text, end, is_same in (texts[0], 10, True), (texts[1], 10, False), (texts[1], 49, False):
-        case = case_of(Scenario.parse(text), 'mote 1 prints')
+        case = Case(net_of(Scenario.parse(text)), 'mote 1 prints')
         assert (shrinking.way_now(case._replace(net=case.net._replace(end=end))) == shrinking.way) == is_same
-
-
-def test_parts_that_are_kept(program: Runner) -> None:
-    assert parts_and_sentences(['end, places', 'mote 0 sends', 'medium']) == (
-        frozenset(('end', 'places', 'medium')), ('mote 0 sends',))
-    shrinking = Shrinking(program, case_of(Scenario.parse(DIAMOND), REACHED, SILENT), keeps=frozenset(('end', 'medium', 'places', 'numbers')))
-    shrinking.run()
-    net = shrinking.case.net
-    assert (net.end, net.range, net.base, net.per) == (100, 10, 2, 1000)
-    assert net.motes[0][:2] == (0, 0) and set(net.motes) < set(shrinking.first.net.motes)
-    assert net.numbers == tuple(shrinking.motes)
 
 
 def test_another_cause_is_told() -> None:
@@ -180,18 +166,11 @@ def test_another_cause_is_told() -> None:
     need_built()
 
     def cause(text: str) -> Cause:
-        return cause_of(Source('test', answer(text.encode()).report, Scenario.parse(text)), REACHED)
+        return cause_of(Source('test', Report.parse(answer(text.encode()).report), Scenario.parse(text)), REACHED)
     lost = cause(DIAMOND + ''.join('[[loss]]\nfrom = %d\nto = 3\nevery = 1\n' % it for it in (1, 2)))
     never = cause(DIAMOND.replace('if !known', 'if (!known && (self < 3))'))
     assert [*lost.kinds, *never.kinds] == ['lost', 'condition']
     assert never.differs(lost) and not lost.differs(lost) and not cause(DIAMOND).differs(cause(DIAMOND))
-
-
-def test_it_says_which_set_it_makes_small() -> None:
-    fault = 'mote 0 is silent'
-    one, other, pair = Found((fault,), ['s']), Found((fault,), ['s']), Found((fault, fault), ['s'])
-    assert [chosen(one, it).removeprefix('made from: mote 0 is silent') for it in ([one], [one, pair], [one, other, pair])] == [
-        '', ' (the smallest set)', ' (the worst of 2 sets of this size)']
 
 
 # The command.

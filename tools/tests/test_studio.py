@@ -14,13 +14,13 @@ from here import SECONDS, TOOLS, TOP, Room, until
 import skips
 import stand_in
 from motesim.faults import Fault
+from motesim.runner import Stopped
 from motesim.studio import answers
 from motesim.studio.command import pinned
 from motesim.studio.desk import Changed, Desk
-from motesim.studio.runs import MEGABYTE, LimitMet, Runs, Superseded
 from motesim.studio.server import Server
 from motesim.studio.session import Session
-from motesim.studio.shrinking import Shrinking
+from motesim.studio.shrinking import small_text
 from test_studio_page import EXPECTED, LIMITS, NET
 
 
@@ -149,51 +149,38 @@ class Running(unittest.TestCase):
     def setUp(self) -> None:
         self.enterContext(stand_in.program())
 
-    def run_text(self, text: str, **limits: Any) -> Any:
-        runs = Runs(LIMITS._replace(**limits))
-        return runs.run(runs.ask(), text.encode())
-
-    def test_a_run_answers_what_the_program_does(self) -> None:
-        got = self.run_text(NET)
-        self.assertEqual((got.status, got.fault, got.report[:12]), (0, b'', b'mote 0 talk\n'))
-        got = self.run_text(NET.replace('base = 3', 'base = 0'))
-        self.assertEqual((got.status, got.report, got.fault), (1, b'', b'motesim: medium fault 2\n'))
+    def session(self, **limits: Any) -> Session:
+        return Session(Desk(None), LIMITS._replace(**limits))
 
     @mock.patch('motesim.runner.process.PATIENCE', 1)
     def test_each_limit_stops_a_run_and_says_how_to_raise_it(self) -> None:
         for word, limits, limit, option in [
                 ('never_ends', {'seconds': 1}, 'no answer in 1 seconds', '--seconds'),
-                ('long_report', {'report': MEGABYTE}, 'the report is longer than 1,048,576 bytes', '--report'),
-                ('much_memory', {'memory': 400 * MEGABYTE}, 'the run needs more than 400 megabytes of memory',
-                 '--memory')]:
-            with self.assertRaises(LimitMet, msg=word) as caught:
-                self.run_text('# %s\n%s' % (word, NET), **limits)
+                ('long_report', {'report': 1 << 20}, 'the report is longer than 1,048,576 bytes', '--report'),
+                ('much_memory', {'memory': 400 << 20}, 'the run needs more than 400 megabytes of memory', '--memory')]:
+            with self.assertRaises(Fault, msg=word) as caught:
+                self.session(**limits).done({'text': '# %s\n%s' % (word, NET)})
             self.assertIn('%s. Start tools/studio with a larger %s' % (limit, option), str(caught.exception))
 
-    def test_a_newer_text_stops_the_run_before_and_none_run_at_once(self) -> None:
-        ended: list[object] = []
-        runs, alive = Runs(LIMITS), []
+    def test_a_newer_text_stops_the_run_before(self) -> None:
+        session, ended = self.session(), list[object]()
 
-        def one(text: str, ticket: int) -> None:
+        def one(text: str) -> None:
             try:
-                ended.append(runs.run(ticket, text.encode()).status)
-            except Superseded:
-                ended.append('superseded')
+                ended.append(session.done({'text': text}).run.report.motes[0].program)
+            except Stopped:
+                ended.append('stopped')
 
+        texts = ['# never_ends %d' % number for number in range(4)]
         threads = []
-        for number in range(4):
-            threads.append(threading.Thread(target=one, args=('# never_ends %d' % number, runs.ask())))
+        for text in texts:
+            threads.append(threading.Thread(target=one, args=(text,)))
             threads[-1].start()
-            # (the run before is still the one that runs, or a newer one is)
-            self.assertTrue(until(lambda: runs.running and runs.running.pid not in alive))
-            alive.append(runs.running.pid if runs.running else None)
-        one(NET, runs.ask())
+            self.assertTrue(until(lambda: session.newest == text))
+        one(NET)
         for thread in threads:
             thread.join(SECONDS)
-        self.assertEqual(sorted(map(str, ended)), ['0'] + ['superseded'] * 4)
-        self.assertIsNone(runs.running)
-        for pid in filter(None, alive):
-            self.assertFalse(os.path.exists('/proc/%d' % pid))
+        self.assertEqual(sorted(map(str, ended)), ['stopped'] * 4 + ['talk'])
 
 
 class Answering(Room):
@@ -204,7 +191,7 @@ class Answering(Room):
         self.enterContext(stand_in.program())
         self.file = self.put('net.toml', NET)
         self.put('net.expect.toml', EXPECTED)
-        self.server = Server(Session(Desk(self.file), Runs()))
+        self.server = Server(Session(Desk(self.file), LIMITS))
         threading.Thread(target=self.server.serve_forever, kwargs={'poll_interval': 0.05}, daemon=True).start()
         self.addCleanup(self.server.server_close)
         self.addCleanup(self.server.shutdown)
@@ -292,11 +279,11 @@ class Answering(Room):
         self.assertEqual(claims, ['mote 1: at least 1 line "recv value 6 to 8"'])
 
     def test_advice_on_a_stopped_run_ends_at_the_limit(self) -> None:
-        runs = self.server.session.runs
+        session = self.server.session
         with mock.patch('motesim.studio.session.busiest', return_value=' It loops.') as busiest:
             self.assertEqual(self.answer('advise', NET), {'does': ' It loops.'})
             self.assertTrue(busiest.call_args.kwargs['goes_on']())
-            runs.limits = LIMITS._replace(seconds=0)
+            session.limits = LIMITS._replace(seconds=0)
             self.answer('advise', NET)
             self.assertFalse(busiest.call_args.kwargs['goes_on']())
 
@@ -335,16 +322,11 @@ class Answering(Room):
 class Shrunk(unittest.TestCase):
     def test_a_small_scenario_has_the_faults_that_break_it(self) -> None:
         skips.need_built('motesim', 'motecheck')
-        small = Shrinking(LIMITS).text('# fault: link 0 to 1 is broken\n' + NET, 'mote 1 receives exactly 2')
+        small = small_text('# a\n# fault: link 0 to 1 is broken\n' + NET, 'mote 1 receives exactly 2', LIMITS)
         self.assertTrue(small.startswith('# fault: link 0 to 1 is broken\n'), small)
         self.assertEqual(small.count('[[mote]]'), 2)
         with self.assertRaisesRegex(Fault, 'prints none'):
-            Shrinking(LIMITS).text(NET, 'mote 1 prints none')
-
-    def test_the_faults_of_a_text_are_in_its_head(self) -> None:
-        text = answers.with_faults('# a\n# fault: mote 1 is silent\nend = 5\n# fault: mote 2 is silent\n', ['mote 3 is silent'])
-        self.assertEqual(text, '# fault: mote 3 is silent\n# a\nend = 5\n# fault: mote 2 is silent\n')
-        self.assertEqual(answers.faults_of(text), ('mote 3 is silent',))
+            small_text(NET, 'mote 1 prints none', LIMITS)
 
 
 class Command(Room):

@@ -12,8 +12,6 @@ import stand_in
 from browser import InBrowser
 from motesim.runner import Limits
 from motesim.studio.desk import Desk
-from motesim.studio.runs import LIMITS as USUAL
-from motesim.studio.runs import Runs
 from motesim.studio.server import Server
 from motesim.studio.session import Session
 
@@ -21,7 +19,7 @@ NET = text_of('two_hear.toml')
 EXPECTED = text_of('two_hear.expect.toml')
 POLLED = text_of('polled.toml')
 # (no run is stopped because the machine is busy)
-LIMITS = USUAL._replace(seconds=SECONDS)
+LIMITS = Limits(SECONDS, 1 << 30, 16 << 20)
 READY = 'window.motesim && motesim.ready && (motesim.web.judged || document.body.classList.contains("stale"))'
 
 
@@ -44,7 +42,7 @@ class InStudio(InBrowser):
 
     def stop(self) -> None:
         if self.server:
-            self.server.session.runs.ask()
+            self.server.session.stop()
             self.server.shutdown()
             self.server.server_close()
             self.server = None
@@ -52,7 +50,7 @@ class InStudio(InBrowser):
     def open(self, text: str | None = None, limits: Limits = LIMITS, against: str | None = None,
              faults: tuple[str, ...] = ()) -> None:
         self.file.write_text(text or self.text)
-        self.serve(Server(Session(Desk(self.file), Runs(limits), against, faults)))
+        self.serve(Server(Session(Desk(self.file), limits, against, faults)))
         self.stack.callback(self.stop)
         self.browser.size(1400, 900)
         self.visit()
@@ -152,6 +150,12 @@ class Page(InStudio):
         self.write('expect-asked', 'no mote halts')
         self.wait('by("tab-checks").textContent.startsWith("Checks 4/4")')
         self.assertIn('"no mote halts"', (self.room / 'net.expect.toml').read_text())
+        self.value('[...by("held").children].find(it => it.textContent.includes("no mote halts")).querySelector('
+                   '".small").click()')
+        self.wait('by("tab-checks").textContent.startsWith("Checks 3/3")')
+        self.assertNotIn('no mote halts', (self.room / 'net.expect.toml').read_text())
+        self.write('expect-asked', 'no mote halts')
+        self.wait('by("tab-checks").textContent.startsWith("Checks 4/4")')
         self.write('expect-asked', 'no mote hlts')
         self.said('hlts')
         self.write('expect-asked', 'the net: exactly 6 packets sent')
@@ -290,7 +294,7 @@ class Causes(InStudio):
         self.open(faults=('link 0 to 5 is broken',))
         self.press('tab-checks')
         self.wait('by("held").innerText.includes("Shrink")')
-        with mock.patch.object(self.server.session.shrinking, 'text', return_value=NET):
+        with mock.patch('motesim.studio.session.small_text', return_value=NET):
             self.press_in('held', 'Shrink')
             self.wait('run.begins.length === 3 && by("run-faults").hidden')
 

@@ -15,7 +15,6 @@ from here import SECONDS, TOOLS, Room, rows_of, scenario_of, text_of, until
 from motesim.experiments.asked import known_names, measures_of, sweep_of
 from motesim.experiments.doubts import of_full
 from motesim.experiments.measures import Bench, MeasureFault, read_measure, sentence_of
-from motesim.own_code import CodeFault, imports_of
 from motesim.experiments.one_run import Result, digest, run_job
 from motesim.experiments.results import Head, Results, cell, read_results
 from motesim.experiments.sweep import Sweeper
@@ -96,16 +95,6 @@ def test_a_function_of_two_arguments_gets_the_parameters_of_the_run() -> None:
     it = Bench(BENCH.run, {'period': 4})
     assert [read_measure('python: m.py:both', NAMES, sources).of(it) for _ in range(2)] == [12, 12]
     assert read_measure('python: m.py:old', NAMES, sources).of(it) == 5
-
-
-def test_a_file_imports_files_next_to_it() -> None:
-    sources = {'sub/m.py': 'import one, math\ndef f(run):\n    from two import wrong\n    return wrong(one.two.TWO)\n',
-               'sub/one.py': 'import two\n', 'sub/two.py': 'TWO = 2\ndef wrong(number):\n    return 1 / number\n'}
-    assert read_measure('python: sub/m.py:f', NAMES, sources).of(BENCH) == 0.5
-    assert imports_of('sub/m.py', sources['sub/m.py']) == ['sub/math.py', 'sub/one.py', 'sub/two.py']
-    sources['sub/two.py'] = sources['sub/two.py'].replace('TWO = 2', 'TWO = 0')
-    with pytest.raises(CodeFault, match='f of sub/m.py: sub/two.py, line 3: ZeroDivisionError'):
-        read_measure('python: sub/m.py:f', NAMES, sources).of(BENCH)
 
 
 @pytest.mark.parametrize('text, values', [

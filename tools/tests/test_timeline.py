@@ -167,7 +167,6 @@ class Pages(InBrowser):
             self.shows('details', 'Event 2 of mote 0: %s 1' % event, 'still waiting when the run ends')
             self.assertEqual(self.value('Array.from(run.silent.keys()).filter(i => run.silent[i]).map(i => run.text(i))'),
                              ['4 take 1 a'])
-            self.assertEqual(self.value('[run.groups[0].sent, run.groups[0].quiet]'), [1, 1])
 
     def test_a_run_is_played_and_a_search_finds_lines(self) -> None:
         self.open(small_network())

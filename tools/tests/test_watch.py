@@ -1,11 +1,11 @@
 """The values of variables, and the state of a mote. The values are worked out by hand from the scenarios."""
-import re
 import unittest
 
 from here import TOP
 import skips
 import test_why
 from motesim.faults import Fault
+from motesim.report import Report
 from motesim.report.run import answer
 from motesim.scenario import Scenario
 from motesim.causes.source import At, Source
@@ -13,40 +13,10 @@ from motesim.causes.say import heading, rows_of_state, state_as_json
 from motesim.causes.state import after_line, after_moment, read_state
 from motesim.causes.watch import read_watch, replayed
 
-MARK = 60_001
-
-
-def with_prints(program: str, variable: str) -> str:
-    """A program that prints a mark and a variable after each assignment to it."""
-    added = r'\g<0> print %d; print %s;' % (MARK, variable)
-    plain = re.sub(r'//[^\n]*', '', program)
-    return re.sub(r'(?<=[;{}])(\s*)\b%s = [^;]*;|\binto %s;' % (variable, variable), added, plain)
-
-
-def printed(scenario: str, process: str, variable: str) -> list[list[int]] | None:
-    """The values that a variable gets at each mote, by added prints; None if they can't be added to the program, if
-    they change the run, or if a mote halts."""
-    found = re.search(r'\ncode %s \{.*?(?=\ncode |\Z)' % process, scenario, re.S)
-    changed = scenario.replace(found[0], with_prints(found[0], variable)) if found else scenario
-    got, plain = answer(changed.encode()), answer(scenario.encode())
-    if got.status or changed == scenario or b' halt\n' in plain.report:
-        return None
-    values: list[list[int]] = []
-    rows, left = got.report.decode().split('\n'), list[str]()
-    lines = iter(rows)
-    for line in lines:
-        if line.startswith('mote '):
-            values.append([])
-        if line.endswith(' print %s %d' % (process, MARK)):
-            values[-1].append(int(next(lines).rsplit(' ', 1)[1]))
-        else:
-            left.append(line)
-    return values if '\n'.join(left).encode() == plain.report else None
-
 
 class Questions(unittest.TestCase):
     def test_what_is_watched(self) -> None:
-        source = Source('test', test_why.REPORT.encode(), Scenario.parse(test_why.SCENARIO))
+        source = Source('test', Report.parse(test_why.REPORT), Scenario.parse(test_why.SCENARIO))
         for words, said in (('mote 0 n', "there is no variable 'n'"), ('mote 2 n', 'there is no mote 2'),
                             ('newest', "'newest' is not known")):
             with self.assertRaisesRegex(Fault, said):
@@ -55,7 +25,7 @@ class Questions(unittest.TestCase):
 
 class States(unittest.TestCase):
     def setUp(self) -> None:
-        self.source = Source('test', test_why.REPORT.encode(), Scenario.parse(test_why.SCENARIO))
+        self.source = Source('test', Report.parse(test_why.REPORT), Scenario.parse(test_why.SCENARIO))
 
     def test_after_a_moment(self) -> None:
         """At 4 c has set its timer, and has left; the timer runs on, and its callback will come at 6."""
@@ -91,28 +61,10 @@ class Runs(unittest.TestCase):
         skips.need_built()
 
     def source(self, text: str) -> Source:
-        return Source('test', answer(text.encode()).report, Scenario.parse(text))
+        return Source('test', Report.parse(answer(text.encode()).report), Scenario.parse(text))
 
     def test_flooding(self) -> None:
         """Mote 3 is 3 hops from mote 0: message 1 comes at 40 + 9, and 3 at 120 + 9; 2 goes around a loss, 6 later."""
         source = self.source((TOP / 'examples/flooding.toml').read_text())
         values = replayed(source, *read_watch(source, 'mote 3 newest'))
         self.assertEqual([(it.at, it.value) for it in values], [(0, 0), (49, 1), (95, 2), (129, 3)])
-
-    def test_variables_of_the_examples(self) -> None:
-        """Added prints and the replay are two ways to the same values."""
-        compared = 0
-        for path in sorted(TOP.glob('examples/*.toml')):
-            text = path.read_text()
-            if path.name.endswith('.expect.toml') or answer(text.encode()).status:
-                continue
-            source = self.source(text)
-            for name in {'%s.%s' % (it.name, name) for it in source.program(0).processes for name in it.variables}:
-                found = printed(text, *name.split('.'))
-                if found is not None:
-                    values = replayed(source, *read_watch(source, 'every mote ' + name))
-                    own = [[it.value for it in values if it.mote == mote][1:] for mote in range(source.traces.motes)]
-                    with self.subTest(path.name, variable=name):
-                        self.assertEqual(own, found)
-                    compared += any(found)
-        self.assertGreater(compared, 20)

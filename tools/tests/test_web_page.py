@@ -145,15 +145,16 @@ class Page(InPage):
             self.wait('m.differs.first || web.history.step.run')
             self.assertIn('instead of', self.said())
 
-    def test_the_program_alone_is_changed_and_an_error_is_marked_at_its_place(self) -> None:
+    def test_the_text_is_shown_from_its_program_on_and_an_error_is_marked_at_its_place(self) -> None:
         self.open()
-        self.assertEqual(self.value('by("text").value.split("\\n")[0]'), 'process flood;')
+        self.assertEqual(self.value('text.split("\\n")[Math.round(by("text").scrollTop / web.pad.high)]'), "flood = '''")
         self.value('(it => { it.focus(); const at = it.value.indexOf("print newest"); it.setSelectionRange(at, at); '
                    '})(by("text"))')
         self.browser.type('prin 2; ')
         self.wait('!by("fault").hidden')
         self.assertIn('motesim: program flood fault 3 line 22', self.value('by("fault").textContent'))
-        self.assertIn('line 22', self.said())
+        self.assertIn('line 35', self.said())
+        self.assertIn('Line 35 of the text is line 22 of program flood.', self.value('by("fault").textContent'))
         self.assertIn('prin 2', self.value('document.querySelector(".fault-line").textContent'))
         self.undo()
         self.wait('by("fault").hidden')
@@ -258,8 +259,6 @@ class Page(InPage):
         self.wait('m.differs.first')
         self.undo()
         self.wait('run.rows === 1072')
-        tab_to('part-program')
-        self.key('ArrowRight')
         tab_to('text')
         self.browser.type('# by keyboard\n')
         self.assertEqual(self.value('text'), '# by keyboard\n' + FLOODING)
@@ -304,7 +303,6 @@ class Page(InPage):
 
     def test_lanes_are_as_high_as_their_box_after_each_edit(self) -> None:
         self.open()
-        self.press('part-all')
         for size in SIZES:
             self.browser.size(*size)
             for number in range(4):
@@ -359,8 +357,7 @@ class Page(InPage):
         self.open()
         self.put(grid(20))
         self.wait('run.begins.length === 400')
-        self.press('part-program')
-        self.assertLess(self.value('by("text").value.length'), 1200)
+        self.assertLess(self.value('by("tint").childElementCount'), 100)
 
     def test_a_link_carries_the_text_and_never_markup(self) -> None:
         mark = '# <img src=x onerror="window.wrong = 1"><script>window.wrong = 1</script>\n'

@@ -1,13 +1,14 @@
 """The causes of lines that tools/why reports. The chains are worked out by hand from the scenarios of sessions/why.toml,
 which also has what the command says."""
+import re
 from functools import cache
 
 import pytest
 from claim_judge import deciding_by
-from here import TOP, rows_of, work_of
+from here import TOP, rows_of, scenario_of, work_of
 from motesim.faults import Fault
 from motesim.replay.mote import Parted
-from motesim.replay.translate import translated
+from motesim.report import Report
 from motesim.report.run import answer
 from motesim.scenario import Scenario
 from motesim.scenario.in_programs import ScenarioFile
@@ -16,8 +17,11 @@ from motesim.causes.command import rows_of_asked
 from motesim.causes.fate import after_post
 from motesim.causes.miss import Miss, _Misses, misses
 from motesim.causes.question import Asked, Asker, Missing
-from motesim.causes.say import MOST_CALLS, Reasons, about, because, chain_as_json, of_fate, of_miss, on_values
+from motesim.causes.say import MOST_CALLS, Reasons, about, because, chain_as_json, of_fate, of_miss, on_values, words_of
 from motesim.causes.source import At, Source
+from motesim.causes.state import after_moment
+from motesim.causes.watch import read_watch, replayed
+from motesim.summary.series import Series
 from project.differential.random_scenario import random_scenario
 from sessions import TABLES, Table
 from skips import need_built
@@ -28,7 +32,7 @@ HEAD = -1
 
 
 def source(scenario: str = SCENARIO, report: str = REPORT) -> Source:
-    return Source('test', report.encode(), Scenario.parse(scenario))
+    return Source('test', Report.parse(report), Scenario.parse(scenario))
 
 
 @cache
@@ -39,7 +43,7 @@ def run_of(scenario: str) -> Source:
     need_built()
     path = TOP / 'examples' / (scenario + '.toml')
     text = TEXTS.get(scenario) or (scenario if '\n' in scenario else path.read_text('utf-8'))
-    return Source('test', answer(text.encode()).report, Scenario.parse(text))
+    return Source('test', Report.parse(answer(text.encode()).report), Scenario.parse(text))
 
 
 def because_of(source: Source, where: At) -> str:
@@ -78,14 +82,6 @@ def test_an_event_for_a_process_that_is_not_on_the_process_list() -> None:
     left = source(report=REPORT.replace('7 take 0 h', '7 drop 0 h'))
     assert of_fate(left, after_post(left, At(1, 5))) == 'its event was dropped at 7, because h was not on the process list'
     assert because_of(run_of('broadcast'), At(0, 10)) == 'event 0 was dropped: b was not on the process list'
-
-
-def test_loops_that_are_too_deep() -> None:
-    """18 loops in one another are taken, 19 are not."""
-    text = 'process a; code a { body { %s yield; %s } }'
-    assert len(translated(text % ('while 1 { ' * 18, '}' * 18)).statements) == 19
-    with pytest.raises(Fault, match='more than 18 loops'):
-        translated(text % ('while 1 { ' * 19, '}' * 19))
 
 
 def test_what_another_program_wrote_or_nobody_sent_is_refused() -> None:
@@ -133,13 +129,13 @@ def test_where_the_text_of_a_program_begins(rows: str, program: str, above: int 
 
 def test_reasons_and_json_have_both_lines() -> None:
     """The program begins on line 9 of the file, so its line 8 is line 16 of the file; or it is in no such file."""
-    found = Source('test', REPORT.encode(), Scenario.parse(SCENARIO), ScenarioFile('a.toml', SCENARIO))
+    found = Source('test', Report.parse(REPORT), Scenario.parse(SCENARIO), ScenarioFile('a.toml', SCENARIO))
     hops = chain(found, At(0, 7))
     first = chain_as_json(found, hops)['chain'][0]
     assert because(found, hops[0]) == 'a, line 8 (a.toml:16): `post b msg 5`'
     assert (first['program_line'], first['file'], first['file_line']) == (8, 'a.toml', 16)
     other = ScenarioFile('b.mote', 'process x;\ncode x { body { print 1; } }\n')
-    assert because_of(Source('test', REPORT.encode(), Scenario.parse(SCENARIO), other), At(0, 7)) == 'a, line 8 of program talker: `post b msg 5`'
+    assert because_of(Source('test', Report.parse(REPORT), Scenario.parse(SCENARIO), other), At(0, 7)) == 'a, line 8 of program talker: `post b msg 5`'
 
 
 # Which line a question is about.
@@ -248,6 +244,19 @@ def test_lines_at_another_time_are_looked_up_in_linear_work() -> None:
     assert of_miss(asker.source, found[0]).startswith('`send 0 7`, at 4: 1 moment too late')
 
 
+# The causes of lines that have a line of their own as their cause, in the words of the report.
+CAUSES = (r'recv (?P<mote>\d+) (\d+) (\d+)', r'send \2 \3'), (r'(?:lost|collide) (?P<mote>\d+) (\d+)', r'send \2 \d+'), (
+    r'(?:take|drop) (\d+) \w+', r'post \1 .*'), (r'deaf (\d+ \d+)', r'recv \1 .*'), (
+    'start (?:etimer|ctimer|radio)', r'mote \d+ .*'), ('.*', '(?:start|take|recv|mote) .*')
+
+
+def has_cause(line: str, cause: str) -> bool:
+    """Returns whether a line may have a cause, by the table of DEBUGGING."""
+    form, wanted = next(it for it in CAUSES if re.fullmatch(it[0], line))
+    found = re.fullmatch(form, line)
+    return found is not None and re.fullmatch(found.expand(wanted.replace(r'\d', '[0-9]').replace(r'\w', '[a-z]')), cause) is not None
+
+
 def test_each_line_has_one_cause_that_is_earlier() -> None:
     """On all examples and cases, and on random scenarios, back to the start of a mote."""
     need_built()
@@ -257,15 +266,44 @@ def test_each_line_has_one_cause_that_is_earlier() -> None:
         got = answer(data)
         if got.status:
             continue
-        found = Source('test', got.report, Scenario.parse(data))
+        found = Source('test', Report.parse(got.report), Scenario.parse(data))
         traces, steps = found.traces, dict[At, int]()
         everything = [At(mote, place) for mote in range(traces.motes) for place in range(len(traces.lines(mote)))]
         for at in sorted(everything, key=lambda at: (traces.moment(at), at)):
             cause = cause_of(found, at)
             assert cause is not None
+            assert has_cause(traces.text(at).partition(' ')[2], words_of(found, cause)), (at, cause)
             assert cause.mote == at.mote and cause.place < at.place or traces.moment(cause) < traces.moment(at), at
             assert traces.moment(cause) <= traces.moment(at)
             # (a line of another mote is earlier by a moment at least, so its cause is known here)
             steps[at] = 1 + (0 if cause.place < 0 else steps[cause])
         lines += len(everything)
     assert lines > 25_000
+
+
+# Motes that boot again. Process p prints 1, and sends at 5 moments after its boot; the mote boots again at 3.
+
+AGAIN = scenario_of('process p;\nautostart p;\ncode p {\n  var n = 0;\n  etimer t;\n  body {\n    n = (n + 1);\n    print n;\n    send n;\n'
+                    '    set t 5;\n    yield_until fired(t);\n    send 7;\n    while 1 { yield; }\n  }\n}\n')
+LIFE = '{0} start etimer\n{0} start ctimer\n{0} start radio\n{0} start p\n{0} print p 1\n{0} send {1} 1\n'
+TWICE = 'mote 0 p\n%s3 boots\n%s8 post 0 p timer 0\n8 take 0 p\n8 send 2 7\nmedium\n0 0 0 1\n3 0 1 1\n8 0 2 7\nleft 0\n' % (
+    LIFE.format(0, 0), LIFE.format(3, 1))
+
+
+@pytest.mark.parametrize('fault', ['mote 0 restarts at 3', 'mote 0 is off from 1 to 3'])
+def test_a_mote_that_boots_again(fault: str) -> None:
+    scenario = Scenario.parse(AGAIN)
+    scenario.faults = (fault,)
+    run = Source('test', Report.parse(TWICE), scenario)
+    hops = chain(run, At(0, 15))
+    assert [words_of(run, it.where) for it in hops] == ['send 2 7', 'take 0 p', 'post 0 p timer 0', 'start p', 'boots', 'mote 0 p']
+    assert [because(run, it) for it in hops[3:]] == ['in the list of autostart', fault, 'the start']
+    assert [(it.at, it.value) for it in replayed(run, *read_watch(run, 'mote 0 n'))] == [(0, 0), (0, 1), (3, 0), (3, 1)]
+    assert after_moment(run, 0, 4).replay.timers[0].due == 8 and after_moment(run, 0, 2).replay.timers[0].due == 5
+    assert [it['posted'] for it in Series(run.traces.report, 10).rows()][:1] == [1]
+
+
+def test_an_event_that_a_boot_forgets() -> None:
+    run = Source('test', Report.parse(REPORT.replace('7 take 0 h\n', '7 boots\n').split('7 print h 8')[0] + 'medium\n4 0 0 8 1@7\nleft 0\n'),
+                 Scenario.parse(SCENARIO))
+    assert of_fate(run, after_post(run, At(1, 5))) == 'mote 1 booted again at 7, before its event was taken'

@@ -26,7 +26,7 @@ def small_run() -> Run:
 class Data(unittest.TestCase):
     def test_causes_are_those_of_the_chains(self) -> None:
         """Of the lines of both motes, the distance of each cause; 0 at the head. Mote 1's `recv` is line 22."""
-        source = Source('small', test_why.REPORT.encode(), Scenario.parse(test_why.SCENARIO))
+        source = Source('small', Report.parse(test_why.REPORT), Scenario.parse(test_why.SCENARIO))
         causes = Causes(source)
         places = [cause_of(source, At(0, place)) for place in range(18)]
         self.assertEqual(list(causes.causes)[:18], [
@@ -101,7 +101,7 @@ class Pages(InBrowser):
                       self.value('by("why-chain").innerText'))
         shown = self.value('[...document.querySelectorAll("#why-chain li code")].map(it => it.textContent)')
         self.assertEqual(shown, ['7 print h 8', '7 take 0 h', '7 post 0 h packet 8', '7 recv 0 0 8', '4 send 0 8',
-                                 '4 take 0 a', '4 post 0 a timer 0', '0 start a', '0 mote 0 talker'])
+                                 '4 take 0 a', '4 post 0 a timer 0', '0 start a', 'mote 0 talker'])
         self.value('document.querySelectorAll("#why-chain li button")[4].click()')
         self.assertEqual(self.value('[m.chosen.mote, m.chosen.line]'), [0, 12])
 

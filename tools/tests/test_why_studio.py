@@ -5,17 +5,16 @@ from typing import Any
 import here  # (it puts tools/ on the path)
 import test_why
 from motesim.report import Report
-from motesim.report.run import Run
 from motesim.scenario import Scenario
-from motesim.causes.studio import Causes
+from motesim.causes.source import Source
+from motesim.causes.studio import answer
 
 
 class Answers(unittest.TestCase):
     """The server's answers on the report of test_why."""
 
     def ask(self, what: str, **asked: object) -> dict[str, Any]:
-        run = Run('small', Report.parse(test_why.REPORT), Scenario.parse(test_why.SCENARIO))
-        return Causes().answer(what, 1, run, dict(asked))
+        return answer(what, Source('small', Report.parse(test_why.REPORT), Scenario.parse(test_why.SCENARIO)), asked)
 
     def test_why(self) -> None:
         self.assertEqual([it['line'] for it in self.ask('why', row=28)['chain']], [28, 27, 26, 25, 14, 8, 7, 6, 1])

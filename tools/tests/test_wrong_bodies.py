@@ -14,7 +14,7 @@ from motesim.faults import Fault
 from project import kit, wrong_bodies
 from project.mutants import checks, log, public
 from project.mutants.checks import ANSWER, CONTRACT, LIMIT, TWIN, Verdict, is_in, refused_in
-from project.mutants.edits import Edit, edits_of, function_around, groups, together
+from project.mutants.edits import Edit, applied, edits_of, function_around, groups
 
 HAS_KIT = pytest.mark.skipif(not shutil.which('rt'), reason='the command rt of the Rattle kit is not here')
 CODE = text_of('functions.txt')
@@ -32,7 +32,7 @@ def crate_at(room: Path, files: dict[str, str]) -> Any:
 @pytest.mark.parametrize('old, new, name, file', [
     ('n == 3', 'n == 4', 'one', 'lib'), ('        4\n', '        9\n', 'one', 'lib'), ('        4\n', '', 'one', 'lib'),
     ('        5\n', '        9\n', 'Queue::two', 'lib'), ('        7\n', '        7 + 0\n', 'Queue::three', 'lib'),
-    ('    8\n', '    9\n', 'four', 'lib'), ('    8\n', '    9\n', 'queue::four', 'a/queue'),
+    ('    8\n', '    9\n', 'four', 'lib'), ('    8\n', '    9\n', 'a::queue::four', 'a/queue'),
     ('        5\n', '        9\n', 'Queue::two', 'a/queue'),
     *((it, 'x', None, 'lib') for it in ('n: u8,', 'result = n', 'result = 1', 'result = 6', 'T: Copy,\n', 'fn start', "impl<'a")),
     # (two bodies)
@@ -96,11 +96,13 @@ def test_one_check_judges_each_function_once(edits: Edits) -> None:
     assert groups([one, two, other, whole]) == [[one, two], [other], [whole]]
 
 
-def test_edits_are_applied_one_after_another_if_they_can(edits: Edits) -> None:
-    its = edits.read('n == 3 -> n == 7', '        5 -> 9', 'result = n -> 99', '= n } -> 98')
-    text = together([it.text for it in its], '')['src/lib.rt']
-    assert [it in text for it in ('n == 7', '\n9\n', '99', '98')] == [True, True, True, False]
-    assert together([], '') == {}
+def test_one_check_judges_twins_of_one_function_that_change_other_lines(edits: Edits) -> None:
+    one, two, other = edits.read(*('old: %s\nnew: 9\ntwin: %s' % it for it in (
+        ('n == 3', '3 == n'), ('        4', '        4 + 0'), ('if n', 'if 0 + n'))))
+    assert groups([one, two, other]) == [[one], [two], [other]]
+    assert groups([one, two, other], twins=True) == [[one, two], [other]]
+    text = applied([one, two], True)['src/lib.rt']
+    assert '3 == n' in text and '4 + 0' in text
 
 
 # What a check says.
@@ -134,6 +136,10 @@ BOTH, ALONE, BOTH_NEW = 'new: x\ntwin: a new: x\ntwin: b', 'new: x\ntwin: a', 'n
 UNFIT = 'proofs/a/one/Answers.antt:4:2: error: `%s`: no proof\nfn c::a::one: not proved\n'
 
 
+def applied_texts(edits: Sequence[Edit], twins: bool) -> dict[str, str]:
+    return dict.fromkeys((twins and it.twin or it.text for it in edits), '')
+
+
 def trial_of(kept: Path | None, *edits: Edit) -> checks.Trial:
     """A trial whose control keeps this, or isn't proved."""
     trial = checks.Trial(edits or [ONE])
@@ -156,21 +162,26 @@ def trial_of(kept: Path | None, *edits: Edit) -> checks.Trial:
     *(({ALONE: UNFIT % goal, 'new: a': twin}, TWINS[:1], [kind]) for goal, twin, kind in (
         ('returns', GOOD % 'one', CONTRACT), ('returns', UNFIT % 'returns', TWIN), ('loop-a-init', GOOD % 'one', ANSWER),
         ('loop-a-init', UNFIT % 'loop-a-init', ANSWER)))], ids=range(11))
-def test_the_verdicts_of_a_trial(said: dict[str, str], edits: list[Edit], kinds: list[str]) -> None:
+def test_the_verdicts_of_a_trial(said: dict[str, str], edits: list[Edit], kinds: list[str], tmp_path: Path) -> None:
     """The kinds of the verdicts, from the lines of checks by the names of their edits."""
     def checked(crate: Any, texts: dict[str, str], flags: list[str], kept: Path) -> Any:
         assert flags[3::2] == [{'a': 'one', 'b': 'two'}[it.split()[-1]] for it in texts]
         lines = said[' '.join(texts)]
         return SimpleNamespace(stdout=lines + 'logic=proved', returncode=0 if 'no proof' not in lines else 1)
     with mock.patch.multiple(checks, checked=checked, linked=lambda kept, to: to, says_nothing=lambda lines, texts: False,
-                             together=lambda texts, folder: dict.fromkeys(texts, '')):
-        found = trial_of(Path('kept'), *edits).verdicts(edits)
-    assert [found[it].kind for it in edits] == kinds
+                             applied=applied_texts), mock.patch('project.mutants.edits.applied', applied_texts):
+        trial = trial_of(tmp_path, *edits)
+        trial.judge(edits)
+        trial.end()
+    assert [trial.found[it].kind for it in edits] == kinds and len(trial.seconds) > 1
 
 
 def test_the_control(tmp_path: Path) -> None:
     """Nothing is known if it isn't proved; it checks the changed functions or the whole crate; what it keeps is deleted."""
-    assert {it.kind for it in trial_of(None).verdicts([ONE, TWO]).values()} == {checks.UNKNOWN}
+    trial = trial_of(None)
+    trial.judge([ONE, TWO])
+    trial.end()
+    assert {it.kind for it in trial.found.values()} == {checks.UNKNOWN}
     tried = []
 
     def kept(crate: Any, flags: list[str]) -> Path | None:
@@ -181,9 +192,8 @@ def test_the_control(tmp_path: Path) -> None:
             checks.Trial(edits).control(1)
     assert tried == [['--only', 'one', '--only', 'two'], [], []]
     (tmp_path / 'kept').mkdir()
-    trial_of(tmp_path / 'kept').forget(1)
+    trial_of(tmp_path / 'kept').end()
     assert not (tmp_path / 'kept').exists()
-    trial_of(None).forget(1)
 
 
 # The log of the last tries.
@@ -207,13 +217,14 @@ class Log:
 
     def note(self, found: dict[Edit, Verdict], digest: str, edits: Sequence[Edit]) -> None:
         with mock.patch.object(log, 'digest', lambda edit: digest):
-            log.note(found, edits)
+            log.note(found, edits, {'low': 7})
 
     def digest(self, crate: Any) -> str:
-        log.sum_of.cache_clear()
+        log.code_of.cache_clear()
+        log.definitions_in.cache_clear()
         log.digest.cache_clear()
-        log.judging_code.cache_clear()
-        return log.digest(Edit(crate, self.room / 'high/a.edit', None, False, None), self.room)
+        text = 'file: src/lib.rt\nold: 1\nnew: 2\n'
+        return log.digest(Edit(crate, self.room / 'crates/high/a.edit', None, False, None, text))
 
 
 @pytest.fixture
@@ -233,35 +244,27 @@ def test_the_last_try_is_noted(kept: Log) -> None:
     assert found['low/b'].verdict.why.startswith('an error xxx')
 
 
-OF_LOW = 'fn a() -> u8\n    ensures { result = 1 }\n{\n    %s\n}\n\nstruct C {}\n'
-# Changes of files on which no verdict depends.
-SAME = {'high/a.edit': '# A remark.\nfile: src/lib.rt\n', 'high/src/lib.rt': '    // A comment only.\nfn b() {}\n',
-        'low/src/lib.rt': OF_LOW % '2 - 1', 'low/proofs/a/Answers.antt': 'returns c = c.new\n',
-        'crates.txt': 'low:\n# Tests\nother_tests: low\n', 'tools/project/mutants/log.py': 'x = 1\n',
-        'tools/project/mutants/checks.py': KEPT_CODE.replace('Says more', 'Says less'),
-        'tools/project/kit.py': 'def used() -> int:\n    return 1\n\n\ndef unused() -> int:\n    return 2\n'}
-OTHER = ['high/a.edit', 'high/src/lib.rt', 'high/proofs/b/Answers.antt', 'low/src/lib.rt', 'low/specs/A.antt',
-         'low/proofs/P.antt', 'tools/project/mutants/checks.py', 'tools/project/kit.py']
+HIGH = 'ghost use Rattle.high.specs.A.{a};\nfn b() {}\n'
+# Changes of files in crates/ on which no verdict depends.
+SAME = {'high/a.edit': '# A remark.\nfile: src/lib.rt\n', 'high/proofs/b/Answers.antt': 'returns c = c.new\n',
+        'high/src/lib.rt': '    // A comment only.\nuse low::C;\n' + HIGH, 'high/src/other.rt': 'fn c() {}\n',
+        'high/specs/A.antt': '-- Remark.\nuse Rattle.low.specs.In.B.{b}\na = 1\n', 'high/specs/Other.antt': 'c = 1\n'}
+OTHER = 'high/a.edit', 'high/src/lib.rt', 'high/specs/A.antt', 'low/specs/In/B.antt'
 
 
-def test_a_digest_has_all_that_a_verdict_depends_on(kept: Log) -> None:
-    below = crate_at(kept.room / 'low', {'src/lib.rt': OF_LOW % 1, 'specs/A.antt': '', 'proofs/P.antt': '',
-                                         'proofs/a/Answers.antt': ''})
-    high = crate_at(kept.room / 'high', {'src/lib.rt': '/// Says more.\nfn b() {}\n', 'a.edit': 'file: src/lib.rt\n',
-                                         'proofs/b/Answers.antt': ''})
-    crate_at(kept.room / 'tools/project', {'mutants/checks.py': KEPT_CODE, 'mutants/edits.py': '',
-                                           'kit.py': 'def used() -> int:\n    """Says more."""\n    return 1\n'})
-    high.below = lambda: [below]
-    crate_at(kept.room, {'crates.txt': 'low:\n'})
+def test_a_digest_has_the_edit_its_files_and_the_definitions_that_they_name(kept: Log) -> None:
+    high = crate_at(kept.room / 'crates/high', {
+        'src/lib.rt': '/// Says more.\n' + HIGH, 'a.edit': 'file: src/lib.rt\n',
+        'specs/A.antt': 'use Rattle.low.specs.In.B as low\nuse Rattle.std.specs.List.{map}\na = 1\n'})
+    crate_at(kept.room / 'crates/low', {'specs/In/B.antt': 'use Rattle.high.specs.A.{a}\nb = 1\n'})
 
     def changes(path: str, text: str) -> bool:
         before = kept.digest(high)
-        crate_at(kept.room, {path: text})
+        crate_at(kept.room / 'crates', {path: text})
         return kept.digest(high) != before
     assert not any(changes(*it) for it in SAME.items())
-    for path in OTHER:
-        assert changes(path, 'fn x() -> u8\n{\n}\n' if path.endswith('rt') else 'def used() -> int:\n    return 3\n'), path
-    assert changes('crates.txt', 'low may_wait=1:\n')
+    for path in reversed(OTHER):
+        assert changes(path, 'x = 1\n'), path
     digests = [kept.digest(high) for kept.kit in ('one', 'kit-1 another', 'kit-2 another')]
     assert digests[0] != digests[1] == digests[2]
 
@@ -307,7 +310,7 @@ def test_a_goal_of_a_contract_that_is_proved_by_hand(tmp_path: Path) -> None:
     assert [public.is_by_hand('one::two::' + it, tmp_path) for it in ('Kept::long', 'free', 'other')] == [True, False, False]
 
 
-MOST_OPEN = 0
+MOST_OPEN = 7
 
 
 CODE_OF_A_CRATE = text_of('crate.txt')
@@ -320,29 +323,31 @@ EVERY = [Edit(crate, Path('%d.edit' % at), 'f%d' % (at % 20), True, None) for cr
 
 
 def of_gate(seed: str, *changed: Edit, every: Sequence[Edit] = EVERY) -> list[Edit]:
-    with mock.patch.multiple(log, noted=lambda: {}, changed=lambda edits: [it for it in edits if it in changed]), \
+    with mock.patch.multiple(log, noted=lambda: {}, changed=lambda edits: [it for it in edits if it in changed],
+                             seconds=lambda: {'low': 40, 'high': 80}), \
+            mock.patch('project.mutants.edits.applied', applied_texts), \
             mock.patch.object(wrong_bodies, 'commit', lambda: seed), mock.patch('builtins.print'):
         return wrong_bodies.of_gate(list(every))
 
 
-def test_a_share_of_few_crates_is_chosen_by_the_commit_and_each_is_tried_in_the_end() -> None:
-    found = of_gate('one')
-    assert len(found) == 6 and found == of_gate('one') != of_gate('two')
+def seconds_of(share: Sequence[Edit]) -> int:
+    """The seconds that the batches of a share need; a crate of EVERY has two."""
+    of_batch = {'low': 120, 'high': 240, 'other': 180}
+    return sum(of_batch[crate] * len(groups([it for it in share if it.crate.name == crate])) for crate in of_batch)
+
+
+def test_a_share_is_chosen_by_the_commit_and_each_is_tried_in_the_end() -> None:
+    assert of_gate('one') == of_gate('one') != of_gate('two')
     shares = [of_gate(str(seed)) for seed in range(200)]
-    assert {len({it.crate.name for it in share}) for share in shares} == {1}
-    assert len({it.name for share in shares for it in share}) == len(EVERY)
+    assert {it.name for share in shares for it in share} == {it.name for it in EVERY}
+    with mock.patch('project.mutants.edits.applied', applied_texts):
+        assert {seconds_of(it) for it in shares} <= {*range(300, wrong_bodies.SECONDS + 1)}
 
 
 def test_a_share_begins_with_the_batches_of_changed_mutants_of_the_gate() -> None:
     gate = [replace(it, file=Path('gate-bodies', it.file)) for it in EVERY]
-    few, many = of_gate('one', *gate[:3], every=gate), of_gate('one', *gate[::2], every=gate)
-    assert (len(few), len(many)) == (6, 6) and {*gate[:3]} <= {*few} and {*many} <= {*gate[::2]}
-    assert {len({it.crate.name for it in of_gate(str(seed), *gate[::2], every=gate)}) for seed in range(20)} == {1}
-
-
-def test_a_share_needs_few_checks() -> None:
-    alone = [replace(it, may_share=False) for it in EVERY * 3]
-    assert len(of_gate('one', every=alone)) == wrong_bodies.MOST_BATCHES
+    for seed in range(20):
+        assert {*gate[80:83]} <= {*of_gate(str(seed), *gate[80:83], every=gate)}
 
 
 def test_known_open_mutants_are_left_out() -> None:

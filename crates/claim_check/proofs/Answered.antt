@@ -1,5 +1,5 @@
 -- Results of a check.
-use Rattle.std.proofs.Common.{◌≡◌, ℕ, List, [], ◌∷◌, ◌++◌, Bool, ◌&&◌, Option, Result, Ok, Err, string_bytes, map, refl, sym, subst, ap, ap₂, ◌∙◌, append_assoc, append-nil}
+use Rattle.std.proofs.Common.{◌≡◌, ℕ, List, [], ◌∷◌, ◌++◌, Bool, ◌&&◌, Option, Result, Ok, Err, string_bytes, map, refl, sym, subst, ap, ap₂, ◌∙◌, append_assoc, append-nil, ◌<◌, length, arith}
 use Rattle.std.proofs.Math.Bool.{and-true}
 use Rattle.std.proofs.lemmas.List.Folds.{list_all-append}
 use Rattle.std.specs.List.{list_all}
@@ -54,6 +54,10 @@ answered s c f net chosen r names cs a is_text tells are_faults named read run s
 pub without_faults : (way : Way) (net : NetModel) (r : Result Report RunError) → RunsWith way net r → RunsWithFaults way net [] r
 without_faults way net (Ok report) h = h
 without_faults way net (Err e) h = h
+
+pub without_any : (way : Way) (net : NetModel) (faults : List Fault) (r : Result Report RunError) → length faults < 1 → RunsWith way net r → RunsWithFaults way net faults r
+without_any way net [] r below h = without_faults way net r h
+without_any way net (fault ∷ faults) r below h = absurd (omega arith)
 
 -- faults that are refused
 module _ (way : Way) (s f : List ℕ) (net : NetModel) (is_text : IsText s) (tells : TellsNet s net) where

@@ -5,7 +5,7 @@ use Rattle.std.specs.Str.Lines.{lines}
 use Rattle.std.specs.Io.KnownBytes.{Keeps}
 use Rattle.clap.specs.declared.error.kind.ErrorKind.{ErrorKind}
 use Rattle.simulation.specs.FaultLines.{AppendsPrefix}
-use Rattle.simulation.specs.Reads.{IsRefused}
+use Rattle.simulation.specs.Reads.{IsInputFault}
 use Rattle.simulation.specs.declared.input.InputError.{InputError}
 use Rattle.claim_check.specs.Command.{Ends, Responds, Serves, is_in_conflict, status_of, status_of_words}
 use Rattle.claim_check.specs.FaultLines.{written_line}
@@ -33,7 +33,7 @@ module _ (input : List ℕ) (old new : Ends) (status : ℕ) where
       inr (k, subst (λ w. FaultOf options_app (lines w) k) first refused, record { status_is = status_is; fault = fault; help = help })
 
   -- the input isn't a text
-  pub by_input : (e : InputError) → IsRefused input e → Keeps old.output new.output → status ≡ status_of (Err (check.Input e))
+  pub by_input : (e : InputError) → IsInputFault input e → Keeps old.output new.output → status ≡ status_of (Err (check.Input e))
       → AppendsPrefix old.errors new.errors (written_line (check.Input e)) → ServesInput input old new status
   by_input e refused keeps status_is line =
       inr (record { answer = Err (check.Input e); is = (e, refl, refused, keeps); status_is = status_is; quiet = tt; line = line })

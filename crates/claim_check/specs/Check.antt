@@ -10,8 +10,8 @@ use Rattle.trace_printer.specs.ReportText.{report_text}
 use Rattle.claim_check.specs.Faults.{AreFaultsOf, RefusesFaultsOf, unused_text}
 use Rattle.claims.specs.declared.claim.Claim.{Claim}
 use Rattle.claims.specs.Claims.{holds_in}
-use Rattle.claim_witness.specs.declared.witness.Break.{Break}
-use Rattle.claim_witness.specs.Shows.{Shows}
+use Rattle.claims.specs.declared.witness.Break.{Break}
+use Rattle.claims.specs.Shows.{Shows}
 use Rattle.claim_text.specs.BreakText.{break_text}
 use Rattle.claim_text.specs.ClaimText.{text_of}
 use Rattle.claim_text.specs.ClaimLines.{claim_lines, Refuses}

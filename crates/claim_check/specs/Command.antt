@@ -11,8 +11,8 @@ use Rattle.window_workers.specs.declared.sync.SyncKind.TheVariants as sync
 use Rattle.simulation.specs.FaultLines.{AppendsPrefix}
 use Rattle.simulation.specs.declared.error.SimError.TheVariants as fault
 use Rattle.net_survey.specs.declared.candidates.Kinds.{Kinds}
-use Rattle.fault_keys.specs.declared.candidates.CopyFault.{CopyFault}
-use Rattle.fault_keys.specs.declared.candidates.CopyFault.TheVariants.{Lost, Late}
+use Rattle.fault_keys.specs.declared.keys.CopyFault.{CopyFault}
+use Rattle.fault_keys.specs.declared.keys.CopyFault.TheVariants.{Lost, Late}
 use Rattle.simulation.specs.Simulation.{Way, way_by}
 use Rattle.claim_check.specs.Check.{Checks, Reports}
 use Rattle.claim_check.specs.FaultLines.{written_line}

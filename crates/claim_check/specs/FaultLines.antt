@@ -3,7 +3,7 @@ use Rattle.std.specs.Prelude.{ℕ, List, [], ◌∷◌, ◌++◌, codes, decimal
 use Rattle.simulation.specs.FaultLines.{fault_line as simulation_line, memory_line}
 use Rattle.simulation.specs.declared.input.InputError.TheVariants as input
 use Rattle.claim_text.specs.declared.error.ClaimsError.TheVariants as claims
-use Rattle.fault_text.specs.declared.error.FaultsError.TheVariants as faults
+use Rattle.radio_faults.specs.declared.error.FaultsError.TheVariants as faults
 use Rattle.trace_printer.specs.declared.error.PrintError.TheVariants as print
 use Rattle.claim_check.specs.declared.error.CheckError.{CheckError}
 use Rattle.claim_check.specs.declared.error.CheckError.TheVariants as check

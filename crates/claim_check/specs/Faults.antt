@@ -4,14 +4,14 @@ use Rattle.std.specs.Prelude.{◌++◌, codes, if◌then◌else◌}
 use Rattle.std.specs.List.{flat_map, list_any}
 use Rattle.radio_packet.specs.declared.fate.Fate.{Fate}
 use Rattle.radio_faults.specs.Faults.{names}
-use Rattle.fault_text.specs.FaultText.{fault_text}
+use Rattle.radio_faults.specs.FaultText.{fault_text}
 use Rattle.mote_net.specs.Net.{NetModel}
 use Rattle.mote_net.specs.Report.{Packet, ReportModel}
 use Rattle.radio_medium.specs.Medium.{hears}
 use Rattle.radio_faults.specs.declared.fault.Fault.{Fault}
-use Rattle.radio_faults.specs.declared.fault.Fault.TheVariants.{Link, Silent, Lost, LostToAll, Late, OffFrom, OffUntil}
+use Rattle.radio_faults.specs.declared.fault.Fault.TheVariants.{Link, Silent, Lost, LostToAll, Late, Off}
 use Rattle.serial_run.specs.FaultLaws.{is_of_motes}
-use Rattle.fault_text.specs.FaultLines.{IsRead, Refuses}
+use Rattle.radio_faults.specs.FaultLines.{IsRead, Refuses}
 use Rattle.simulation.specs.declared.error.SimError.TheVariants as fault
 use Rattle.claim_check.specs.declared.error.CheckError.{CheckError}
 use Rattle.claim_check.specs.declared.error.CheckError.TheVariants as check
@@ -30,8 +30,7 @@ is_in net (Silent mote) = is_mote net mote
 is_in net (Lost sender number to) = is_link net sender to
 is_in net (LostToAll sender number) = is_mote net sender
 is_in net (Late sender number to by) = is_link net sender to
-is_in net (OffFrom mote from) = is_mote net mote
-is_in net (OffUntil mote until) = is_mote net mote
+is_in net (Off mote from until) = is_mote net mote
 
 -- the number of the first fault that names what the net doesn't have, if the faults have numbers from this one on
 abbrev pub missing_from : NetModel → (number : ℕ) → List Fault → Option ℕ

@@ -4,7 +4,7 @@ use Rattle.std.specs.List.{before_first, after_first}
 use Rattle.std.specs.Str.Lines.{lines}
 use Rattle.std.specs.Io.KnownBytes.{Keeps}
 use Rattle.clap.specs.declared.error.kind.ErrorKind.{ErrorKind}
-use Rattle.simulation.specs.Reads.{IsRefused}
+use Rattle.simulation.specs.Reads.{IsInputFault}
 use Rattle.simulation.specs.declared.input.InputError.{InputError}
 use Rattle.claim_check.specs.Command.{Concludes, Ends, RefusesWords, Responds, Serves, is_in_conflict}
 use Rattle.claim_check.specs.Words.{AsksOptions, FaultOf, options_app}
@@ -33,7 +33,7 @@ ServesText input old new status = ((options : Options) × AsksOptions (words_in 
 
 -- the input isn't a text
 abbrev pub RefusesInput : (input : List ℕ) → (old new : Option (List ℕ)) → Result Bool CheckError → Type 0
-RefusesInput input old new r = (e : InputError) × (r ≡ Err (check.Input e)) × IsRefused input e × Keeps old new
+RefusesInput input old new r = (e : InputError) × (r ≡ Err (check.Input e)) × IsInputFault input e × Keeps old new
 
 -- the contents of the streams before and after an input was served, and the exit status that was returned
 abbrev pub ServesInput : (input : List ℕ) → (old new : Ends) → (status : ℕ) → Type 0

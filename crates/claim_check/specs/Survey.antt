@@ -7,8 +7,8 @@ use Rattle.claim_text.specs.ClaimLines.{claim_lines}
 use Rattle.net_survey.specs.Candidates.{fixed_faults}
 use Rattle.net_survey.specs.declared.candidates.Kinds.{Kinds}
 use Rattle.radio_faults.specs.declared.fault.Fault.{Fault}
-use Rattle.fault_keys.specs.declared.candidates.Candidates.{Candidates}
-use Rattle.fault_keys.specs.declared.candidates.CopyFault.{CopyFault}
+use Rattle.fault_keys.specs.declared.keys.Candidates.{Candidates}
+use Rattle.fault_keys.specs.declared.keys.CopyFault.{CopyFault}
 use Rattle.survey.specs.declared.broken.Survey.{Survey}
 use Rattle.survey.specs.declared.search.Limits.{Limits}
 use Rattle.net_survey.specs.NetSurvey.{IsSurveyOf}

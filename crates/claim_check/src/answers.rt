@@ -5,8 +5,7 @@ ghost use Rattle.claim_check.specs.Promises.{AnswersAll, AnswersOne, AnswersWith
 
 use crate::faults::unused_in;
 use claim_text::{write_break, write_claim};
-use claim_witness::break_of;
-use claims::Claim;
+use claims::{Claim, break_of};
 use mote_net::Report;
 use program_tree::Names;
 use radio_faults::Fault;

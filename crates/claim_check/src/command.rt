@@ -14,7 +14,7 @@ ghost use Rattle.claim_check.specs.Command.{are_files_in_conflict, are_in_confli
 ghost use Rattle.claim_check.specs.Command.{is_mixed, is_mixed_with_file, is_survey, lacks_claims, lacks_delays, lacks_survey, plan_for};
 ghost use Rattle.claim_check.specs.Command.{status_of, status_of_words, way_for};
 ghost use Rattle.claim_check.specs.Survey.{plan_of};
-ghost use Rattle.fault_keys.specs.declared.candidates.CopyFault.TheVariants.{Lost, Late};
+ghost use Rattle.fault_keys.specs.declared.keys.CopyFault.TheVariants.{Lost, Late};
 ghost use Rattle.claim_check.specs.declared.error.CheckError.TheVariants as check;
 
 use crate::answers::Answers;

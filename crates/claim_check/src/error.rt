@@ -6,7 +6,7 @@ ghost use Rattle.simulation.specs.declared.error.SimError.TheVariants as fault;
 ghost use Rattle.trace_printer.specs.declared.error.PrintError.TheVariants as print;
 
 use claim_text::ClaimsError;
-use fault_text::FaultsError;
+use radio_faults::FaultsError;
 use simulation::{InputError, RunError, ScenarioError, SimError};
 use std::alloc::AllocError;
 use std::fmt;

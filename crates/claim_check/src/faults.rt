@@ -8,9 +8,8 @@ ghost use Rattle.serial_run.specs.FaultLaws.{is_of_motes};
 ghost use Rattle.claim_check.specs.Faults.{is_used, names_copy_in, names_copy_of, unused_line, unused_text};
 
 use crate::error::CheckError;
-use fault_text::{FaultText, read_faults};
 use mote_net::{LogLine, Net, Report};
-use radio_faults::Fault;
+use radio_faults::{Fault, FaultText, read_faults};
 use std::alloc::{AllocError, Global};
 
 /// Returns `true` if the net has a mote with this number.
@@ -34,8 +33,11 @@ fn is_in(net: &Net, fault: Fault) -> bool
     match fault {
         Fault::Link(from, to) => is_link(net, from, to),
         Fault::Silent(mote) => is_mote(net, mote),
-        Fault::OffFrom { mote, from: _ } => is_mote(net, mote),
-        Fault::OffUntil { mote, until: _ } => is_mote(net, mote),
+        Fault::Off {
+            mote,
+            from: _,
+            until: _,
+        } => is_mote(net, mote),
         Fault::Lost {
             sender,
             number: _,
@@ -107,7 +109,7 @@ fn is_of_motes(fault: Fault) -> bool
     ensures value { result ≡ is_of_motes fault }
 {
     match fault {
-        Fault::OffFrom { .. } | Fault::OffUntil { .. } => true,
+        Fault::Off { .. } => true,
         _ => false,
     }
 }

@@ -1,3 +1,2 @@
 mod LineLaws
-mod WordsAdded
 mod Reasons

@@ -1,5 +1,5 @@
 -- What shows that a report breaks a claim has one text.
-use Rattle.std.proofs.Common.{◌≡◌, ◌∙◌, refl, sym, ap, ap₂, arith, ℕ, zero, suc, ◌+◌, ◌<◌, ◌≤◌, Bool, true, false, cond, ◌&&◌, Option, Some, None, List, [], ◌∷◌, ◌++◌, length, take, codes, slice_get, count_by, subst}
+use Rattle.std.proofs.Common.{◌≡◌, ◌∙◌, refl, sym, ap, arith, ℕ, zero, suc, ◌+◌, Bool, true, false, cond, ◌&&◌, Option, Some, List, [], ◌∷◌, ◌++◌, take, codes, slice_get, count_by, subst}
 use Rattle.std.specs.List.{list_all}
 use Rattle.std.proofs.lemmas.Bool.{and_parts}
 use Rattle.std.proofs.lemmas.List.Sums.{sum_by-cons, count_by-le-length}
@@ -8,17 +8,16 @@ use Rattle.claims.specs.declared.trace.Found.{Found}
 use Rattle.claims.specs.declared.claim.Test.{Test}
 use Rattle.claims.specs.declared.claim.Case.{Case}
 use Rattle.claims.specs.declared.claim.Claim.{Claim}
-use Rattle.claims.specs.Claims.{test_holds, case_holds, holding_in}
-use Rattle.claim_witness.specs.declared.witness.BrokenTest.{BrokenTest}
-use Rattle.claim_witness.specs.declared.witness.Witness.{Witness}
-use Rattle.claim_witness.specs.declared.witness.Spare.{Spare as SpareCase}
-use Rattle.claim_witness.specs.declared.witness.Break.{Break}
-use Rattle.claim_witness.specs.declared.witness.Break.TheVariants.{Missing, Spare, Fewer}
-use Rattle.claim_witness.specs.Witnesses.{spare_line, shown_in}
-use Rattle.claim_witness.specs.Differences.{missing_values, superfluous_values}
-use Rattle.claim_witness.specs.Shows.{Shows, ShowsTest, ShowsMissing, ShowsSpare}
+use Rattle.claims.specs.Claims.{test_holds, case_holds}
+use Rattle.claims.specs.declared.witness.BrokenTest.{BrokenTest}
+use Rattle.claims.specs.declared.witness.Witness.{Witness}
+use Rattle.claims.specs.declared.witness.Spare.{Spare as SpareCase}
+use Rattle.claims.specs.declared.witness.Break.{Break}
+use Rattle.claims.specs.declared.witness.Break.TheVariants.{Missing, Spare, Fewer}
+use Rattle.claims.specs.Witnesses.{spare_line, shown_in}
+use Rattle.claims.specs.Differences.{missing_values, superfluous_values}
+use Rattle.claims.specs.Shows.{Shows, ShowsTest, ShowsMissing, ShowsSpare}
 use Rattle.claim_text.specs.Subject.{mote_of_tests}
-use Rattle.claim_text.specs.TestText.{tests_text}
 use Rattle.claim_text.specs.BreakText.{subject_of, test_at, beyond_text, labelled, missing_text, missing_at, spare_text, spare_at, break_text}
 
 the_same : {A : Type 0} (o : Option A) (x y : A) → o ≡ Some x → o ≡ Some y → x ≡ y

@@ -1,16 +1,16 @@
 -- The text of breaks.
-use Rattle.std.specs.Prelude.{ℕ, ◌+◌, Option, Some, None, List, [], ◌∷◌, ◌++◌, codes, decimal, slice_get}
-use Rattle.std.specs.List.{flat_map}
+use Rattle.std.specs.Prelude.{ℕ, ◌+◌, Option, Some, None, List, [], ◌++◌, codes, decimal, map, slice_get}
 use Rattle.claims.specs.declared.trace.Found.{Found}
 use Rattle.claims.specs.declared.claim.Test.{Test}
 use Rattle.claims.specs.declared.claim.Case.{Case}
 use Rattle.claims.specs.declared.claim.Claim.{Claim}
-use Rattle.claim_witness.specs.declared.difference.Difference.{Difference}
-use Rattle.claim_witness.specs.declared.witness.BrokenTest.{BrokenTest}
-use Rattle.claim_witness.specs.declared.witness.Break.{Break}
-use Rattle.claim_witness.specs.declared.witness.Break.TheVariants.{Missing, Spare, Fewer}
+use Rattle.claims.specs.declared.difference.Difference.{Difference}
+use Rattle.claims.specs.declared.witness.BrokenTest.{BrokenTest}
+use Rattle.claims.specs.declared.witness.Break.{Break}
+use Rattle.claims.specs.declared.witness.Break.TheVariants.{Missing, Spare, Fewer}
+use Rattle.claim_text.specs.Lists.{list_text}
 use Rattle.claim_text.specs.Subject.{mote_of_tests}
-use Rattle.claim_text.specs.TestText.{next_value, test_text, tests_text}
+use Rattle.claim_text.specs.TestText.{test_text, tests_text}
 
 -- the number of a line in the trace of its mote, from 1, and its moment
 abbrev pub place_text : Found → List ℕ
@@ -36,8 +36,7 @@ test_at names own (Some t) = test_text names own t
 
 -- values behind a label, if there are any
 abbrev pub labelled : (label : List ℕ) → List ℕ → List ℕ
-labelled label [] = []
-labelled label (v ∷ vs) = label ++ (decimal v ++ flat_map next_value vs)
+labelled label vs = list_text [] label (codes ", ") (map decimal vs)
 
 abbrev pub difference_text : Difference → List ℕ
 difference_text d = labelled (codes "; missing: ") d.missing.items ++ labelled (codes "; superfluous: ") d.superfluous.items
@@ -50,11 +49,13 @@ missing_test names own test b =
 abbrev pub missing_text : (names : List (List ℕ)) → Case → BrokenTest → List ℕ
 missing_text names k b = missing_test names (mote_of_tests k.tests.items) (slice_get k.tests.items b.test) b
 
+abbrev pub spare_case : (names : List (List ℕ)) → (own : Option ℕ) → Case → Option Found → List ℕ
+spare_case names own k line =
+    codes "also for " ++ (subject_of own ++ (tests_text names own k.tests.items ++ with_text line))
+
 -- a case too many, and the line with which its first test is met
 abbrev pub spare_text : (names : List (List ℕ)) → Case → Option Found → List ℕ
-spare_text names k line =
-    codes "also for " ++ (subject_of (mote_of_tests k.tests.items)
-    ++ (tests_text names (mote_of_tests k.tests.items) k.tests.items ++ with_text line))
+spare_text names k line = spare_case names (mote_of_tests k.tests.items) k line
 
 abbrev pub missing_at : (names : List (List ℕ)) → Option Case → BrokenTest → List ℕ
 missing_at names None b = codes "no such case"

@@ -1,18 +1,18 @@
 -- The text of claims.
-use Rattle.std.specs.Prelude.{ℕ, Bool, true, false, ◌&&◌, ◌==◌, if◌then◌else◌, Option, Some, None, List, [], ◌∷◌, ◌++◌}
+use Rattle.std.specs.Prelude.{ℕ, ◌==◌, if◌then◌else◌, None, List, [], ◌∷◌, ◌++◌}
 use Rattle.std.specs.Prelude.{codes, length, map}
 use Rattle.claims.specs.declared.limits.Limits.{Limits}
+use Rattle.claims.specs.declared.claim.Case.{Case}
 use Rattle.claims.specs.declared.claim.Claim.{Claim}
-use Rattle.claim_text.specs.LimitsText.{limits_text}
-use Rattle.claim_text.specs.Groups.{Entry, entry_of, groups_in, entries_text}
+use Rattle.claim_text.specs.Numbers.{is_all, limits_text}
+use Rattle.claim_text.specs.Subject.{mote_of_tests}
+use Rattle.claim_text.specs.TestText.{tests_text}
+use Rattle.claim_text.specs.Groups.{Entry, groups_in, entries_text}
 
-abbrev pub is_this : ℕ → Option ℕ → Bool
-is_this n None = false
-is_this n (Some most) = most == n
-
--- the limits want exactly this number
-abbrev pub is_all : Limits → (number : ℕ) → Bool
-is_all l n = is_this n l.most && l.least == n
+-- a case: its mote, if it has one, and the text of its tests
+abbrev pub entry_of : (names : List (List ℕ)) → Case → Entry
+entry_of names c = (let mote = mote_of_tests c.tests.items in
+    record { mote = mote; body = codes ": " ++ tests_text names mote c.tests.items })
 
 -- `each of `, for all of several cases; nothing, for the only case; or the limits
 abbrev pub quantity_text : Limits → (number : ℕ) → List ℕ
@@ -25,7 +25,7 @@ these_text es = if groups_in None es == 1 then [] else codes "these: "
 
 abbrev pub cases_text : List Entry → List ℕ
 cases_text [] = codes "no cases"
-cases_text (e ∷ es) = entries_text true None (e ∷ es)
+cases_text (e ∷ es) = entries_text (codes "; ") [] None (e ∷ es)
 
 -- The text of a claim: how many of the cases hold, and the cases in groups.
 abbrev pub text_of : (names : List (List ℕ)) → Claim → List ℕ

@@ -1,6 +1,6 @@
 -- Cases as the printer has them.
 use Rattle.std.specs.Prelude.{string_bytes}
-use Rattle.claim_text.specs.declared.entry.Entry.{Entry as EntryOfCode}
+use Rattle.claim_text.specs.declared.group.Entry.{Entry as EntryOfCode}
 use Rattle.claim_text.specs.Groups.{Entry}
 
 abbrev pub view_of : EntryOfCode → Entry

@@ -1,64 +1,59 @@
--- Cases in groups: neighbours that differ in their mote alone.
-use Rattle.std.specs.Prelude.{ℕ, Bool, false, ◌+◌, ◌&&◌, ◌||◌, if◌then◌else◌, Option, Some, None, List, [], ◌∷◌, ◌++◌}
-use Rattle.std.specs.Prelude.{codes, is_some}
-use Rattle.std.specs.Prelude.{bytes_eq}
-use Rattle.claims.specs.declared.claim.Case.{Case}
-use Rattle.claim_text.specs.Motes.{mote_item, mote_word}
-use Rattle.claim_text.specs.Subject.{mote_of_tests}
-use Rattle.claim_text.specs.TestText.{tests_text}
+-- Motes in groups: neighbours of which the same is said.
+use Rattle.std.specs.Prelude.{ℕ, Bool, false, ◌+◌, ◌&&◌, ◌==◌, if◌then◌else◌, Option, Some, None, List, [], ◌∷◌, ◌++◌}
+use Rattle.std.specs.Prelude.{codes, decimal, is_some, bytes_eq}
 
--- a case: its mote, if it has one, and the text of its tests
+-- a mote, or the net, and the text of what is said of it
 pub record Entry : Type 0 where
   pub mote : Option ℕ
   pub body : List ℕ
 
-abbrev pub entry_of : (names : List (List ℕ)) → Case → Entry
-entry_of names c = (let mote = mote_of_tests c.tests.items in
-    record { mote = mote; body = tests_text names mote c.tests.items })
-
--- the mote of the first of these cases, if it differs from the case before them in its mote alone
+-- the mote of the first of these entries, if the same is said of it as of the entry before them
 abbrev pub mote_after : Entry → (rest : List Entry) → Option ℕ
 mote_after e [] = None
 mote_after e (f ∷ fs) = if is_some e.mote && bytes_eq e.body f.body then f.mote else None
 
-abbrev pub mote_if_followed : (mote after : Option ℕ) → Option ℕ
-mote_if_followed mote None = None
-mote_if_followed mote (Some after) = mote
-
--- the mote of a case, if the next one differs from it in its mote alone
+-- the mote of an entry, if the same is said of the next one
 abbrev pub mote_before : Entry → (rest : List Entry) → Option ℕ
-mote_before e rest = mote_if_followed e.mote (mote_after e rest)
+mote_before e rest = if is_some (mote_after e rest) then e.mote else None
 
 -- how many groups there are
 abbrev pub groups_in : (before : Option ℕ) → List Entry → ℕ
 groups_in before [] = 0
 groups_in before (e ∷ es) = (if is_some before then 0 else 1) + groups_in (mote_before e es) es
 
-abbrev pub mote_in_group : (before : Option ℕ) → (mote : ℕ) → (after : Option ℕ) → List ℕ
-mote_in_group None mote after = mote_word after ++ mote_item None mote after
-mote_in_group (Some before) mote after = mote_item (Some before) mote after
+abbrev pub is_next : ℕ → Option ℕ → Bool
+is_next mote None = false
+is_next mote (Some next) = next == mote + 1
 
-abbrev pub name_of_subject : (before mote after : Option ℕ) → List ℕ
-name_of_subject before None after = codes "the net"
-name_of_subject before (Some mote) after = mote_in_group before mote after
+-- A mote between these motes of its group, such as `motes 1 to 3, 7`. A mote that follows the one before it is in a span
+-- with it, and the last one of a span is behind `to`.
+abbrev pub mote_item : (before : Option ℕ) → (mote : ℕ) → (after : Option ℕ) → List ℕ
+mote_item None mote after = (if is_some after then codes "motes" else codes "mote") ++ (codes " " ++ decimal mote)
+mote_item (Some before) mote after =
+    if is_next before (Some mote) then (if is_next mote after then [] else codes " to " ++ decimal mote)
+    else codes ", " ++ decimal mote
 
--- what stands between two groups
-abbrev pub separator : (is_first : Bool) → (before : Option ℕ) → List ℕ
-separator is_first before = if is_first || is_some before then [] else codes "; "
+abbrev pub subject_text : (before mote after : Option ℕ) → List ℕ
+subject_text before None after = codes "the net"
+subject_text before (Some mote) after = mote_item before mote after
 
--- `mote 3`, `motes 3` if more motes follow, the next mote in such a list, or `the net`
-abbrev pub subject_text : (is_first : Bool) → (before mote after : Option ℕ) → List ℕ
-subject_text is_first before mote after = separator is_first before ++ name_of_subject before mote after
+-- a word between two groups
+abbrev pub separator : (between : List ℕ) → (rest : List Entry) → List ℕ
+separator between [] = []
+separator between (e ∷ es) = between
 
--- the last case of a group has the tests
-abbrev pub body_text : (body : List ℕ) → (after : Option ℕ) → List ℕ
-body_text body None = codes ": " ++ body
-body_text body (Some after) = []
+-- what is said of all motes of a group stands behind the last one; if there are several, a word is in front of it
+abbrev pub ending_text : (between together : List ℕ) → (before : Option ℕ) → (body : List ℕ) → (rest : List Entry)
+    → (after : Option ℕ) → List ℕ
+ending_text between together before body rest (Some after) = []
+ending_text between together before body rest None =
+    (if is_some before then together else []) ++ (body ++ separator between rest)
 
-abbrev pub entry_text : (is_first : Bool) → (before : Option ℕ) → Entry → (after : Option ℕ) → List ℕ
-entry_text is_first before e after = subject_text is_first before e.mote after ++ body_text e.body after
+abbrev pub entry_text : (between together : List ℕ) → (before : Option ℕ) → Entry → (rest : List Entry) → List ℕ
+entry_text between together before e rest = (let after = mote_after e rest in
+    subject_text before e.mote after ++ ending_text between together before e.body rest after)
 
-abbrev pub entries_text : (is_first : Bool) → (before : Option ℕ) → List Entry → List ℕ
-entries_text is_first before [] = []
-entries_text is_first before (e ∷ es) =
-    entry_text is_first before e (mote_after e es) ++ entries_text false (mote_before e es) es
+abbrev pub entries_text : (between together : List ℕ) → (before : Option ℕ) → List Entry → List ℕ
+entries_text between together before [] = []
+entries_text between together before (e ∷ es) =
+    entry_text between together before e es ++ entries_text between together (mote_before e es) es

@@ -17,21 +17,18 @@ abbrev pub is_plain : Order → Bool
 is_plain o = is_plain_relation o.relation o.is_so
 
 abbrev pub some_or_no : (is_plain : Bool) → List ℕ
-some_or_no is_plain = if is_plain then codes "some line " else codes "no line "
+some_or_no is_plain = if is_plain then codes "some" else codes "no"
 
-abbrev pub every_or_not : (is_plain : Bool) → List ℕ
-every_or_not is_plain = if is_plain then codes " before every line " else codes " not before every line "
-
-abbrev pub moments_text : (moments : ℕ) → (relation : List ℕ) → (is_plain : Bool) → List ℕ
-moments_text k relation is_plain =
-    codes " within "
-    ++ (decimal k ++ (noun k (codes " moment") (codes " moments") ++ (relation ++ some_or_no is_plain)))
+abbrev pub within_text : (moments : ℕ) → (relation : List ℕ) → (is_plain : Bool) → List ℕ
+within_text k relation is_plain =
+    codes " within " ++ (decimal k ++ (codes " " ++ (noun k (codes "moment") (codes "moments")
+    ++ (relation ++ (some_or_no is_plain ++ codes " line ")))))
 
 abbrev pub relation_text : Relation → (is_plain : Bool) → List ℕ
-relation_text After is_plain = codes " after " ++ some_or_no is_plain
-relation_text NotBefore is_plain = every_or_not is_plain
-relation_text (Within k) is_plain = moments_text k (codes " after ") is_plain
-relation_text (Followed k) is_plain = moments_text k (codes " before ") is_plain
+relation_text After is_plain = codes " after " ++ (some_or_no is_plain ++ codes " line ")
+relation_text NotBefore is_plain = if is_plain then codes " before every line " else codes " not before every line "
+relation_text (Within k) is_plain = within_text k (codes " after ") is_plain
+relation_text (Followed k) is_plain = within_text k (codes " before ") is_plain
 
 -- an order, as it is or turned round
 abbrev pub order_text : (names : List (List ℕ)) → (own : Option ℕ) → Order → (is_plain : Bool) → List ℕ

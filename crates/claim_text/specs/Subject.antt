@@ -1,13 +1,13 @@
 -- The mote of a case.
 use Rattle.std.specs.Prelude.{ℕ, Option, Some, None, List, [], ◌∷◌}
-use Rattle.claims.specs.declared.trace.Watch.{Watch}
+use Rattle.claims.specs.declared.trace.Watched.{Watched}
 use Rattle.claims.specs.declared.count.Count.{Count}
 use Rattle.claims.specs.declared.count.Count.TheVariants.{Lines, Packets, Copies, Left, Rows}
 use Rattle.claims.specs.declared.ratio.Ratio.{Ratio as RatioOfCode}
 use Rattle.claims.specs.declared.claim.Test.{Test}
 use Rattle.claims.specs.declared.claim.Test.TheVariants.{Count as CountOf, Ratio, Values, AnyOrder, Last, Compared}
 
-abbrev pub only_mote : List Watch → Option ℕ
+abbrev pub only_mote : List Watched → Option ℕ
 only_mote [] = None
 only_mote (w ∷ []) = Some w.mote
 only_mote (w ∷ v ∷ ws) = None

@@ -1,127 +1,74 @@
-//! The text of deeds: patterns, and the motes and periods of their lines.
-ghost use Rattle.std.specs.Prelude.{◌≡◌, true};
-ghost use Rattle.claim_text.specs.Appends.{Appends};
-ghost use Rattle.claim_text.specs.Motes.{is_next, mote_item, mote_word};
-ghost use Rattle.claim_text.specs.DeedText.{mote_after, mote_before, opening, closing, watch_text, watches_text};
-ghost use Rattle.claim_text.specs.DeedText.{own_period, watched_text, deed_text};
+//! Deeds: patterns, and the motes and periods of their lines.
+ghost use Rattle.std.specs.Prelude.{◌≡◌, map, string_bytes, IfOk};
+ghost use Rattle.claim_text.specs.DeedText.{entry_of, groups_text, own_period, watches_text, watched_text, deed_text};
+ghost use Rattle.claim_text.specs.EntryView.{view_of};
 
-use crate::numbers::{Written, put_period};
-use crate::pattern::put_patterns;
-use crate::scope::Scope;
-use claims::{Deed, Span, Watch};
+use crate::error::Unread;
+use crate::group::{Entry, Frame, write_entries};
+use crate::numbers::write_period;
+use crate::part::{Part, Read, Scope, Words, Written, write_list};
+use crate::reader::Reader;
+use claims::{Deed, Span, Watched};
+use std::alloc::AllocError;
 
-fn is_next(mote: u16, next: Option<u16>) -> bool
-    ensures value { result ≡ is_next mote next }
-{
-    match next {
-        None => false,
-        Some(next) => u32::from(next) == u32::from(mote) + 1,
+const PATTERNS: Words = Words {
+    none: "of no kind",
+    before: "",
+    between: " or ",
+};
+
+const WATCHES: Frame = Frame {
+    between: " and of ",
+    together: " together",
+};
+
+fn read_watches(reader: &mut Reader<'_>) -> Read<Vec<Watched>> {
+    let mut watches = Vec::new(reader.scope.alloc);
+    if reader.take(" of no mote") {
+        return Ok(watches);
     }
-}
-
-/// Appends a mote in a list of motes, if it stands between these motes of the list. Nothing stands for a mote inside a
-/// span.
-pub fn put_mote(text: &mut String, before: Option<u16>, mote: u16, after: Option<u16>) -> Written
-    ensures appends { Appends result text.old text.new (mote_item before mote after) }
-{
-    match before {
-        None => write!(text, "{mote}"),
-        Some(before) if !is_next(before, Some(mote)) => write!(text, ", {mote}"),
-        Some(_) if is_next(mote, after) => Ok(()),
-        Some(_) => write!(text, " to {mote}"),
+    if !reader.take(" of ") {
+        let mote = reader.scope.own.ok_or(Unread::Unexpected)?;
+        let when = reader.period()?;
+        watches.push(Watched { mote, when })?;
+        return Ok(watches);
     }
-}
-
-/// Returns the word in front of a list of motes: in the singular if no other mote follows.
-pub fn mote_word(after: Option<u16>) -> &'static str
-    ensures value { result.now ≡ mote_word after }
-{
-    match after {
-        None => "mote ",
-        Some(_) => "motes ",
-    }
-}
-
-/// The mote of the first of these watches, if its period is that of the watch before them.
-fn mote_after(watch: Watch, rest: &[Watch]) -> Option<u16>
-    ensures value { result ≡ mote_after watch rest.now }
-{
-    match rest {
-        [next, ..] if watch.when.from == next.when.from && watch.when.to == next.when.to => {
-            Some(next.mote)
+    for _ in 0..reader.rest.len() {
+        let motes = reader.motes()?;
+        let _ = reader.take(WATCHES.together);
+        let when = reader.period()?;
+        for mote in &motes {
+            watches.push(Watched { mote: *mote, when })?;
         }
-        _ => None,
+        if !reader.take(WATCHES.between) {
+            break;
+        }
     }
+    Ok(watches)
 }
 
-/// The mote of a watch, if the next one has the same period.
-fn mote_before(watch: Watch, rest: &[Watch]) -> Option<u16>
-    ensures value { result ≡ mote_before watch rest.now }
+fn entry_of(scope: Scope<'_>, watch: Watched) -> Result<Entry, AllocError>
+    ensures value { IfOk result (λ e. view_of e ≡ entry_of watch) }
 {
-    match mote_after(watch, rest) {
-        None => None,
-        Some(_) => Some(watch.mote),
-    }
+    let body = write_period(scope, watch.when)?;
+    Ok(Entry {
+        mote: Some(watch.mote),
+        body,
+    })
 }
 
-fn put_opening(
-    text: &mut String,
-    is_first: bool,
-    before: Option<u16>,
-    after: Option<u16>,
-) -> Written
-    ensures appends { Appends result text.old text.new (opening is_first before after) }
+fn entries_of(scope: Scope<'_>, watches: &[Watched]) -> Result<Vec<Entry>, AllocError>
+    ensures value { IfOk result (λ es. map view_of es.items ≡ map entry_of watches.now) }
 {
-    if before.is_some() {
-        return Ok(());
+    let mut entries = Vec::new(scope.alloc);
+    for watch in watches {
+        entries.push(entry_of(scope, *watch)?)?;
     }
-    text.push_str(if is_first { " of " } else { " and of " })?;
-    text.push_str(mote_word(after))
-}
-
-fn put_closing(text: &mut String, before: Option<u16>, when: Span, after: Option<u16>) -> Written
-    ensures appends { Appends result text.old text.new (closing before when after) }
-{
-    if after.is_some() {
-        return Ok(());
-    }
-    if before.is_some() {
-        text.push_str(" together")?;
-    }
-    put_period(text, when)
-}
-
-fn put_watch(
-    text: &mut String,
-    is_first: bool,
-    before: Option<u16>,
-    watch: Watch,
-    after: Option<u16>,
-) -> Written
-    ensures appends { Appends result text.old text.new (watch_text is_first before watch after) }
-{
-    put_opening(text, is_first, before, after)?;
-    put_mote(text, before, watch.mote, after)?;
-    put_closing(text, before, watch.when, after)
-}
-
-/// Appends watches. Neighbours with the same period have it once.
-fn put_watches(text: &mut String, mut watches: &[Watch]) -> Written
-    ensures appends { Appends result text.old text.new (watches_text true None watches.entry.now) }
-{
-    let mut is_first = true;
-    let mut before = None;
-    while let [watch, rest @ ..] = watches {
-        put_watch(text, is_first, before, *watch, mote_after(*watch, rest))?;
-        is_first = false;
-        before = mote_before(*watch, rest);
-        watches = rest;
-    }
-    Ok(())
+    Ok(entries)
 }
 
 /// The period of the only watch, if its mote is that of the case.
-fn own_period(own: Option<u16>, watches: &[Watch]) -> Option<Span>
+fn own_period(own: Option<u16>, watches: &[Watched]) -> Option<Span>
     ensures value { result ≡ own_period own watches.now }
 {
     match (own, watches) {
@@ -130,21 +77,46 @@ fn own_period(own: Option<u16>, watches: &[Watch]) -> Option<Span>
     }
 }
 
-fn put_watched(text: &mut String, own: Option<u16>, watches: &[Watch]) -> Written
-    ensures appends { Appends result text.old text.new (watched_text own watches.now) }
+fn write_groups(scope: Scope<'_>, watches: &[Watched]) -> Written
+    ensures written { IfOk result (λ t. string_bytes t ≡ groups_text watches.now) }
 {
-    match (own_period(own, watches), watches) {
-        (Some(when), _) => put_period(text, when),
-        (None, []) => text.push_str(" of no mote"),
-        (None, [_, ..]) => put_watches(text, watches),
+    let entries = entries_of(scope, watches)?;
+    write_entries(scope, WATCHES, entries.as_slice())
+}
+
+fn write_watches(scope: Scope<'_>, watches: &[Watched]) -> Written
+    ensures written { IfOk result (λ t. string_bytes t ≡ watches_text watches.now) }
+{
+    match watches {
+        [] => String::from_str(scope.alloc, " of no mote"),
+        [_, ..] => {
+            let groups = write_groups(scope, watches)?;
+            format!(in scope.alloc; " of {groups}")
+        }
     }
 }
 
-/// Appends a deed: its patterns, and the motes and periods of its lines.
-pub fn put_deed(text: &mut String, scope: Scope<'_>, deed: &Deed) -> Written
-    ensures appends { Appends result text.old text.new
-        (deed_text scope.entry.names.now scope.entry.own deed.now) }
+fn write_watched(scope: Scope<'_>, watches: &[Watched]) -> Written
+    ensures written { IfOk result (λ t. string_bytes t ≡ watched_text scope.entry.own watches.now) }
 {
-    put_patterns(text, scope.names, deed.patterns.as_slice())?;
-    put_watched(text, scope.own, deed.watches.as_slice())
+    match own_period(scope.own, watches) {
+        Some(when) => write_period(scope, when),
+        None => write_watches(scope, watches),
+    }
+}
+
+impl Part for Deed {
+    ghost text = { deed_text };
+
+    fn read(reader: &mut Reader<'_>) -> Read<Deed> {
+        let patterns = reader.list(PATTERNS)?;
+        let watches = read_watches(reader)?;
+        Ok(Deed { watches, patterns })
+    }
+
+    fn write(&self, scope: Scope<'_>) -> Written {
+        let patterns = write_list(scope, PATTERNS, self.patterns.as_slice())?;
+        let watched = write_watched(scope, self.watches.as_slice())?;
+        format!(in scope.alloc; "{patterns}{watched}")
+    }
 }

@@ -2,8 +2,8 @@
 ghost use Rattle.std.specs.Prelude.{◌≡◌, ℕ, List};
 ghost use Rattle.mote_net.specs.Report.{ReportModel};
 ghost use Rattle.claims.specs.declared.claim.Claim.{Claim};
-ghost use Rattle.claim_witness.specs.declared.witness.Break.{Break};
-ghost use Rattle.claim_witness.specs.Shows.{Shows};
+ghost use Rattle.claims.specs.declared.witness.Break.{Break};
+ghost use Rattle.claims.specs.Shows.{Shows};
 ghost use Rattle.claim_text.specs.BreakText.{break_text};
 
 /// What shows that a report breaks a claim has one text.

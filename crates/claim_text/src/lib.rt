@@ -21,9 +21,9 @@
 //!         | "the last line " DEED " has the value " (SET | "of the last line " DEED)
 //!         | "the lines " DEED " have in " ("order of time" | "any order") " exactly the values of the lines " DEED
 //!         | "each value of the lines " DEED " is the value of " LIMITS " lines " DEED
-//! COUNT   = "lines " DEED [ORDER] | "packets sent" [" by" TO] [PERIOD] | "copies" [" to" TO] ARRIVAL
+//! COUNT   = "lines " DEED [ORDER] | "packets sent" [" by" TO] [PERIOD] | "copies" [" to" TO] FATE
 //!         | "copies left at the end" | "lines in the report"                  in the singular behind the number 1
-//! ARRIVAL = " sent" [PERIOD] " and lost by the medium" | " lost by the medium or due by " N
+//! FATE    = " sent" [PERIOD] " and lost by the medium" | " lost by the medium or due by " N
 //! ORDER   = (" after " | " within " N " moments after " | " within " N " moments before ") ("some" | "no")
 //!           " line " DEED | [" not"] " before every line " DEED
 //! DEED    = (PATTERN {" or " PATTERN} | "of no kind") ([PERIOD] | " of no mote" | " of " OF {" and of " OF})
@@ -51,26 +51,23 @@
 #![tactic(auto)]
 
 mod broken;
+mod claim;
 mod counted;
 mod deed;
-mod entry;
 mod error;
-mod kinds;
+mod group;
 mod laws;
-mod limits;
 mod lines;
 mod numbers;
 mod order;
+mod part;
 mod pattern;
-mod read;
 mod reader;
-mod scope;
 mod subject;
 mod test;
-mod write;
 
 pub use broken::write_break;
+pub use claim::write_claim;
 pub use error::ClaimsError;
 pub use laws::one_reason;
 pub use lines::read_claims;
-pub use write::write_claim;

@@ -3,9 +3,10 @@ ghost use Rattle.std.specs.Prelude.{◌≡◌, ◌≤◌, [], ◌∷◌, ◌++�
 ghost use Rattle.claim_text.specs.ClaimText.{text_of};
 ghost use Rattle.claim_text.specs.ClaimLines.{lines_of, is_claim_line, claim_lines, IsAt, Refuses};
 
+use crate::claim::write_claim;
 use crate::error::{ClaimsError, Unread};
+use crate::part::Scope;
 use crate::reader::Reader;
-use crate::write::write_claim;
 use claims::Claim;
 use program_tree::Names;
 use std::alloc::{AllocError, Global};
@@ -56,8 +57,10 @@ fn read_line(alloc: Global, names: &Names, line: &[u8], number: usize) -> Result
     ensures text { IfOk result (λ c. text_of names.now c ≡ line.now) }
     ensures at { IfErr result (IsAt number line.now) }
 {
-    let mut reader = Reader { alloc, rest: line };
-    let claim = match reader.claim(names) {
+    let own = None;
+    let scope = Scope { alloc, names, own };
+    let mut reader = Reader { scope, rest: line };
+    let claim = match reader.claim() {
         Ok(claim) => claim,
         Err(Unread::Memory) => return Err(ClaimsError::Memory),
         Err(Unread::Unexpected) => {

@@ -1,71 +1,183 @@
-//! The text of patterns of lines.
-ghost use Rattle.claim_text.specs.Appends.{Appends};
-ghost use Rattle.claim_text.specs.PatternText.{process_text, target_part, parts_text, pattern_text, patterns_text};
+//! Patterns of lines.
+ghost use Rattle.std.specs.Prelude.{◌≡◌, string_bytes, IfOk};
+ghost use Rattle.claim_text.specs.PatternText.{kind_text, process_text, target_part, numbers_text, pattern_text};
 
-use crate::kinds::put_kinds;
-use crate::numbers::{Written, put_part};
-use claims::Pattern;
-use program_tree::names::Names;
-use program_tree::{Proc, Target};
+use crate::error::Unread;
+use crate::numbers::write_part;
+use crate::part::{Part, Read, Scope, Words, Written, write_list};
+use crate::reader::Reader;
+use claims::{LineKind, Pattern};
+use program_tree::{Names, Proc, Target};
 
-fn put_process(text: &mut String, names: &Names, process: Proc) -> Written
-    ensures appends { Appends result text.old text.new (process_text names.now process) }
+const ALL_KINDS: [LineKind; 15] = [
+    LineKind::Start,
+    LineKind::Leave,
+    LineKind::Post,
+    LineKind::Full,
+    LineKind::Take,
+    LineKind::Drop,
+    LineKind::Print,
+    LineKind::Busy,
+    LineKind::Halt,
+    LineKind::Send,
+    LineKind::Recv,
+    LineKind::Lost,
+    LineKind::Deaf,
+    LineKind::Collide,
+    LineKind::Boots,
+];
+
+const KINDS: Words = Words {
+    none: "nothing",
+    before: "",
+    between: " or ",
+};
+
+fn word_of(kind: LineKind) -> &'static str
+    ensures value { result.now ≡ kind_text kind }
+{
+    match kind {
+        LineKind::Start => "start",
+        LineKind::Leave => "leave",
+        LineKind::Post => "post",
+        LineKind::Full => "full",
+        LineKind::Take => "take",
+        LineKind::Drop => "drop",
+        LineKind::Print => "print",
+        LineKind::Busy => "busy",
+        LineKind::Halt => "halt",
+        LineKind::Send => "send",
+        LineKind::Recv => "recv",
+        LineKind::Lost => "lost",
+        LineKind::Deaf => "deaf",
+        LineKind::Collide => "collide",
+        LineKind::Boots => "boots",
+    }
+}
+
+impl Part for LineKind {
+    ghost text = { λ names own k. kind_text k };
+
+    fn read(reader: &mut Reader<'_>) -> Read<LineKind> {
+        for kind in ALL_KINDS {
+            if reader.take(word_of(kind)) {
+                return Ok(kind);
+            }
+        }
+        Err(Unread::Unexpected)
+    }
+
+    fn write(&self, scope: Scope<'_>) -> Written {
+        String::from_str(scope.alloc, word_of(*self))
+    }
+}
+
+/// Takes the name of a process, if the word in front of a space or a quotation mark is one.
+fn take_name(reader: &mut Reader<'_>) -> Option<u8> {
+    let rest = reader.rest;
+    let end = rest.iter().position(|byte| *byte == b' ' || *byte == b'"')?;
+    let place = place_of(reader.scope.names, &rest[..end])?;
+    reader.rest = &rest[end..];
+    Some(place)
+}
+
+/// The place of a word among the first 256 names.
+fn place_of(names: &Names, word: &[u8]) -> Option<u8> {
+    for place in 0..names.len().min(256) {
+        if names.get(place).as_bytes() == word {
+            return Some(place as u8);
+        }
+    }
+    None
+}
+
+fn read_target(reader: &mut Reader<'_>) -> Read<Target> {
+    let process = if let Some(place) = take_name(reader) {
+        Proc::Own(place)
+    } else if reader.take("etimer") {
+        Proc::Etimer
+    } else if reader.take("ctimer") {
+        Proc::Ctimer
+    } else if reader.take("radio") {
+        Proc::Radio
+    } else if reader.take("all") {
+        return Ok(Target::All);
+    } else {
+        Proc::Own(reader.number_up_to(255)? as u8)
+    };
+    Ok(Target::One(process))
+}
+
+fn write_process(scope: Scope<'_>, process: Proc) -> Written
+    ensures written { IfOk result (λ t. string_bytes t ≡ process_text scope.entry.names.now process) }
 {
     match process {
-        Proc::Own(place) if usize::from(place) < names.len() => {
-            text.push_str(names.get(usize::from(place)))
+        Proc::Own(place) if usize::from(place) < scope.names.len() => {
+            String::from_str(scope.alloc, scope.names.get(usize::from(place)))
         }
-        Proc::Own(place) => write!(text, "{place}"),
-        Proc::Etimer => text.push_str("etimer"),
-        Proc::Ctimer => text.push_str("ctimer"),
-        Proc::Radio => text.push_str("radio"),
+        Proc::Own(place) => format!(in scope.alloc; "{place}"),
+        Proc::Etimer => String::from_str(scope.alloc, "etimer"),
+        Proc::Ctimer => String::from_str(scope.alloc, "ctimer"),
+        Proc::Radio => String::from_str(scope.alloc, "radio"),
     }
 }
 
-fn put_target(text: &mut String, names: &Names, target: Option<Target>) -> Written
-    ensures appends { Appends result text.old text.new (target_part names.now target) }
+fn write_target(scope: Scope<'_>, target: Option<Target>) -> Written
+    ensures written { IfOk result (λ t. string_bytes t ≡ target_part scope.entry.names.now target) }
 {
     match target {
-        None => Ok(()),
-        Some(Target::All) => text.push_str(" process all"),
+        None => Ok(String::new(scope.alloc)),
+        Some(Target::All) => String::from_str(scope.alloc, " process all"),
         Some(Target::One(process)) => {
-            text.push_str(" process ")?;
-            put_process(text, names, process)
+            let process = write_process(scope, process)?;
+            format!(in scope.alloc; " process {process}")
         }
     }
 }
 
-fn put_parts(text: &mut String, pattern: &Pattern) -> Written
-    ensures appends { Appends result text.old text.new (parts_text pattern.now) }
+fn write_numbers(scope: Scope<'_>, pattern: &Pattern) -> Written
+    ensures written { IfOk result (λ t. string_bytes t ≡ numbers_text pattern.now) }
 {
-    put_part(text, " serial ", &pattern.serial)?;
-    put_part(text, " event ", &pattern.event)?;
-    put_part(text, " sender ", &pattern.sender)?;
-    put_part(text, " packet ", &pattern.packet)?;
-    put_part(text, " value ", &pattern.value)
+    let serial = write_part(scope, " serial ", &pattern.serial)?;
+    let event = write_part(scope, " event ", &pattern.event)?;
+    let sender = write_part(scope, " sender ", &pattern.sender)?;
+    let packet = write_part(scope, " packet ", &pattern.packet)?;
+    let value = write_part(scope, " value ", &pattern.value)?;
+    format!(in scope.alloc; "{serial}{event}{sender}{packet}{value}")
 }
 
-fn put_pattern(text: &mut String, names: &Names, pattern: &Pattern) -> Written
-    ensures appends { Appends result text.old text.new (pattern_text names.now pattern.now) }
-{
-    text.push_str("\"")?;
-    put_kinds(text, &pattern.kinds)?;
-    put_target(text, names, pattern.target)?;
-    put_parts(text, pattern)?;
-    text.push_str("\"")
-}
+impl Part for Pattern {
+    ghost text = { λ names own p. pattern_text names p };
 
-/// Appends patterns, each in quotation marks.
-pub fn put_patterns(text: &mut String, names: &Names, patterns: &[Pattern]) -> Written
-    ensures appends { Appends result text.old text.new (patterns_text names.now patterns.now) }
-{
-    let [first, more @ ..] = patterns else {
-        return text.push_str("of no kind");
-    };
-    put_pattern(text, names, first)?;
-    for pattern in more {
-        text.push_str(" or ")?;
-        put_pattern(text, names, pattern)?;
+    fn read(reader: &mut Reader<'_>) -> Read<Pattern> {
+        reader.expect("\"")?;
+        let kinds = reader.list(KINDS)?;
+        let target = if reader.take(" process ") {
+            Some(read_target(reader)?)
+        } else {
+            None
+        };
+        let serial = reader.part(" serial ")?;
+        let event = reader.part(" event ")?;
+        let sender = reader.part(" sender ")?;
+        let packet = reader.part(" packet ")?;
+        let value = reader.part(" value ")?;
+        reader.expect("\"")?;
+        Ok(Pattern {
+            kinds,
+            target,
+            serial,
+            event,
+            sender,
+            packet,
+            value,
+        })
     }
-    Ok(())
+
+    fn write(&self, scope: Scope<'_>) -> Written {
+        let kinds = write_list(scope, KINDS, self.kinds.as_slice())?;
+        let target = write_target(scope, self.target)?;
+        let numbers = write_numbers(scope, self)?;
+        format!(in scope.alloc; "\"{kinds}{target}{numbers}\"")
+    }
 }

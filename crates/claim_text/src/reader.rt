@@ -1,55 +1,25 @@
 //! The rest of a line that is yet to be read.
-ghost use Rattle.std.specs.Prelude.{◌≡◌, map};
+ghost use Rattle.std.specs.Prelude.{◌≤◌, IfOk};
 
 use crate::error::Unread;
-use crate::scope::Scope;
-use std::alloc::Global;
+use crate::part::{Part, Read, Scope, Words};
 
-/// What is left of a line.
+/// What is left of a line, and the scope of the case that is read.
 #[derive(Clone, Copy)]
 pub struct Reader<'a> {
-    pub alloc: Global,
+    pub scope: Scope<'a>,
     pub rest: &'a [u8],
 }
 
-/// What a method of the reader returns that reads something: `Unexpected` if the line doesn't go on with it, and
-/// `Memory` if an allocation fails. After an error, the rest is what wasn't read.
-pub type Read<T> = Result<T, Unread>;
-
-/// What a list has.
-pub trait Item: Sized {
-    /// Reads one item of a list, or several that are written as one.
-    fn read(reader: &mut Reader<'_>, scope: Scope<'_>, items: &mut Vec<Self>) -> Read<()>;
-}
-
 impl Reader<'_> {
-    /// Takes a word, if the rest begins with it.
-    pub fn take(&mut self, word: &str) -> bool {
-        match self.rest.strip_prefix(word.as_bytes()) {
+    /// Takes these words, if the rest begins with them.
+    pub fn take(&mut self, words: &str) -> bool {
+        match self.rest.strip_prefix(words.as_bytes()) {
             Some(rest) => {
                 self.rest = rest;
                 true
             }
             None => false,
-        }
-    }
-
-    /// Takes a noun in the singular or in the plural, if the rest begins with it.
-    pub fn take_noun(&mut self, one: &str, many: &str) -> bool {
-        self.take(one) || self.take(many)
-    }
-
-    /// Returns whether the rest begins with a word.
-    pub fn starts(&self, word: &str) -> bool {
-        self.rest.starts_with(word.as_bytes())
-    }
-
-    /// Takes a word that has to be there.
-    pub fn expect(&mut self, word: &str) -> Read<()> {
-        if self.take(word) {
-            Ok(())
-        } else {
-            Err(Unread::Unexpected)
         }
     }
 
@@ -64,30 +34,54 @@ impl Reader<'_> {
         }
     }
 
-    /// Reads a list of one item or more.
-    pub fn list<T: Item + Drop>(&mut self, scope: Scope<'_>, between: &str) -> Read<Vec<T>> {
-        let mut items = Vec::new(self.alloc);
-        for _ in 0..self.rest.len() {
-            T::read(self, scope, &mut items)?;
-            if !self.take(between) {
-                return Ok(items);
-            }
-        }
-        Err(Unread::Unexpected)
+    /// Takes words that have to be there.
+    pub fn expect(&mut self, words: &str) -> Read<()> {
+        self.take_either(words, words)?;
+        Ok(())
     }
 
-    /// Reads a list behind a word, or the word for no items.
-    pub fn list_or<T: Item + Drop>(
-        &mut self,
-        scope: Scope<'_>,
-        none: &str,
-        before: &str,
-        between: &str,
-    ) -> Read<Vec<T>> {
-        if self.take(none) {
-            return Ok(Vec::new(self.alloc));
+    fn digit(&mut self) -> Option<u64> {
+        match self.rest {
+            [byte, rest @ ..] if byte.is_ascii_digit() => {
+                self.rest = rest;
+                Some(u64::from(*byte - b'0'))
+            }
+            _ => None,
         }
-        self.expect(before)?;
-        self.list(scope, between)
+    }
+
+    /// Reads a number; the greatest one for a greater one.
+    pub fn number(&mut self) -> Read<u64> {
+        let Some(mut number) = self.digit() else {
+            return Err(Unread::Unexpected);
+        };
+        for _ in 0..self.rest.len() {
+            let Some(digit) = self.digit() else { break };
+            number = number.saturating_mul(10).saturating_add(digit);
+        }
+        Ok(number)
+    }
+
+    /// Reads a number; this one for a greater one.
+    pub fn number_up_to(&mut self, most: u64) -> Read<u64>
+        ensures within { IfOk result (λ n. n ≤ most) }
+    {
+        Ok(self.number()?.min(most))
+    }
+
+    /// Reads a list of parts.
+    pub fn list<T: Part>(&mut self, words: Words) -> Read<Vec<T>> {
+        let mut parts = Vec::new(self.scope.alloc);
+        if self.take(words.none) {
+            return Ok(parts);
+        }
+        self.expect(words.before)?;
+        for _ in 0..self.rest.len() {
+            parts.push(T::read(self)?)?;
+            if !self.take(words.between) {
+                break;
+            }
+        }
+        Ok(parts)
     }
 }

@@ -11,3 +11,4 @@ pub mod SeenLaws
 pub mod ScanLaws
 pub mod StandLaws
 pub mod TraceLaws
+pub mod WitnessLaws

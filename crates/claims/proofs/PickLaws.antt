@@ -5,7 +5,7 @@ use Rattle.std.proofs.lemmas.List.{drop_more}
 use Rattle.std.proofs.lemmas.List.Sums.{length-filter}
 use Rattle.mote_net.specs.Report.{ReportModel}
 use Rattle.claims.specs.declared.lines.Lines.{Lines}
-use Rattle.claims.specs.declared.trace.Watch.{Watch}
+use Rattle.claims.specs.declared.trace.Watched.{Watched}
 use Rattle.claims.specs.Traces.{trace_at, found_at, lines_of_mote, shows}
 use Rattle.claims.specs.PerMote.{count_in, is_counted, counted_in}
 use Rattle.claims.specs.Lines.{is_wanted, wanted_lines}
@@ -33,7 +33,7 @@ filter-flat_map q p f (x ∷ xs) =
 pub wanted-by-watch : (s : Lines) (r : ReportModel) → wanted_lines s r ≡ flat_map (counted_in s r) s.deed.watches.items
 wanted-by-watch s r = filter-flat_map (is_wanted s.order r) (λ w f. shows s.deed w f.line) (λ w. lines_of_mote r w.mote) s.deed.watches.items
 
-pub length-counted : (s : Lines) (r : ReportModel) (w : Watch) → length (counted_in s r w) ≡ count_in (is_wanted s.order r) r s.deed w
+pub length-counted : (s : Lines) (r : ReportModel) (w : Watched) → length (counted_in s r w) ≡ count_in (is_wanted s.order r) r s.deed w
 length-counted s r w = length-filter (is_counted s r w) (lines_of_mote r w.mote) ∙ count_by-map (is_counted s r w) (found_at w.mote) (enumerate_from 0 (trace_at r w.mote))
 
 get-append-left : {A : Type 0} (xs ys : List A) (n : ℕ) → n < length xs → slice_get (xs ++ ys) n ≡ slice_get xs n

@@ -4,7 +4,7 @@ use Rattle.std.specs.List.{list_any}
 use Rattle.std.proofs.lemmas.Bool.{or_cases, and_parts}
 use Rattle.trace_lines.specs.declared.line.Line.{Line}
 use Rattle.claims.specs.declared.trace.Found.{Found}
-use Rattle.claims.specs.declared.trace.Watch.{Watch}
+use Rattle.claims.specs.declared.trace.Watched.{Watched}
 use Rattle.claims.specs.declared.order.Order.{Order}
 use Rattle.claims.specs.declared.order.Relation.{Relation}
 use Rattle.claims.specs.Orders.{is_related}
@@ -66,7 +66,7 @@ abbrev pub step : Bool → Relation → Found → Found → Option Found → Opt
 step s r l e k = if s then known_with r l e k else k
 
 -- the event that is known once these lines of a trace have been compared
-abbrev pub scan : Order → Found → Watch → List (ℕ × Line) → Option Found → Option Found
+abbrev pub scan : Order → Found → Watched → List (ℕ × Line) → Option Found → Option Found
 scan o l w [] k = k
 scan o l w (x ∷ xs) k = scan o l w xs (step (shows o.event w x.1) o.relation l (found_at w.mote x) k)
 
@@ -90,7 +90,7 @@ or_moved : (a b c : Bool) → (a || b) ≡ true → (a || (b || c)) ≡ true
 or_moved true b c h = refl
 or_moved false b c h = or_left b c h
 
-pub scan_event : (o : Order) (l : Found) (w : Watch) (xs : List (ℕ × Line)) (k : Option Found) (q : Found → Bool) → some_is q (scan o l w xs k) ≡ true → (some_is q k || list_any (λ x. shows o.event w x.1 && q (found_at w.mote x)) xs) ≡ true
+pub scan_event : (o : Order) (l : Found) (w : Watched) (xs : List (ℕ × Line)) (k : Option Found) (q : Found → Bool) → some_is q (scan o l w xs k) ≡ true → (some_is q k || list_any (λ x. shows o.event w x.1 && q (found_at w.mote x)) xs) ≡ true
 scan_event o l w [] k q h = or_left (some_is q k) false h
 scan_event o l w (x ∷ xs) k q h =
     let s = shows o.event w x.1 in
@@ -101,15 +101,15 @@ scan_event o l w (x ∷ xs) k q h =
     (λ a. or_right (some_is q k) ((s && q e) || rest) (or_right (s && q e) rest a))
     (or_cases (some_is q (step s o.relation l e k)) rest (scan_event o l w xs (step s o.relation l e k) q h))
 
-pub scan_related : (o : Order) (l : Found) (w : Watch) (xs : List (ℕ × Line)) (k : Option Found) → each_is (is_related o.relation l) k ≡ true → each_is (is_related o.relation l) (scan o l w xs k) ≡ true
+pub scan_related : (o : Order) (l : Found) (w : Watched) (xs : List (ℕ × Line)) (k : Option Found) → each_is (is_related o.relation l) k ≡ true → each_is (is_related o.relation l) (scan o l w xs k) ≡ true
 scan_related o l w [] k h = h
 scan_related o l w (x ∷ xs) k h = scan_related o l w xs (step (shows o.event w x.1) o.relation l (found_at w.mote x) k) (step_related (shows o.event w x.1) o.relation l (found_at w.mote x) k h)
 
-pub scan_kept : (o : Order) (l b : Found) (w : Watch) (xs : List (ℕ × Line)) (k : Option Found) → is_followed l b ≡ true → some_is (is_related o.relation b) k ≡ true → some_is (is_related o.relation b) (scan o l w xs k) ≡ true
+pub scan_kept : (o : Order) (l b : Found) (w : Watched) (xs : List (ℕ × Line)) (k : Option Found) → is_followed l b ≡ true → some_is (is_related o.relation b) k ≡ true → some_is (is_related o.relation b) (scan o l w xs k) ≡ true
 scan_kept o l b w [] k f h = h
 scan_kept o l b w (x ∷ xs) k f h = scan_kept o l b w xs (step (shows o.event w x.1) o.relation l (found_at w.mote x) k) f (step_kept (shows o.event w x.1) o.relation l b (found_at w.mote x) k f h)
 
-pub scan_all : (o : Order) (l b : Found) (w : Watch) (xs : List (ℕ × Line)) (k : Option Found) → is_followed l b ≡ true → each_is (is_related o.relation l) k ≡ true
+pub scan_all : (o : Order) (l b : Found) (w : Watched) (xs : List (ℕ × Line)) (k : Option Found) → is_followed l b ≡ true → each_is (is_related o.relation l) k ≡ true
     → list_any (λ x. shows o.event w x.1 && (is_related o.relation l (found_at w.mote x) && is_related o.relation b (found_at w.mote x))) xs ≡ true
     → some_is (is_related o.relation b) (scan o l w xs k) ≡ true
 scan_all o l b w [] k f g h = cc
@@ -139,7 +139,7 @@ step_far true r l e k h = known_far r l e k h
 step_far false r l e k h = refl
 
 -- lines to which the line doesn't have the relation change nothing
-pub scan_far : (o : Order) (l : Found) (w : Watch) (xs : List (ℕ × Line)) (k : Option Found) → ((i : ℕ) (d : ℕ × Line) → i < length xs → is_related o.relation l (found_at w.mote (get_or xs i d)) ≡ false) → scan o l w xs k ≡ k
+pub scan_far : (o : Order) (l : Found) (w : Watched) (xs : List (ℕ × Line)) (k : Option Found) → ((i : ℕ) (d : ℕ × Line) → i < length xs → is_related o.relation l (found_at w.mote (get_or xs i d)) ≡ false) → scan o l w xs k ≡ k
 scan_far o l w [] k h = refl
 scan_far o l w (x ∷ xs) k h =
     ap (scan o l w xs) (step_far (shows o.event w x.1) o.relation l (found_at w.mote x) k (h 0 x (omega arith)))

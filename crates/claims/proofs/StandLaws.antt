@@ -7,7 +7,7 @@ use Rattle.std.proofs.lemmas.Bool.Decides.{nat_tests}
 use Rattle.std.proofs.lemmas.List.Folds.{list_any-append}
 use Rattle.mote_net.specs.Report.{ReportModel}
 use Rattle.claims.specs.declared.trace.Found.{Found}
-use Rattle.claims.specs.declared.trace.Watch.{Watch}
+use Rattle.claims.specs.declared.trace.Watched.{Watched}
 use Rattle.claims.specs.declared.order.Order.{Order}
 use Rattle.claims.specs.declared.order.Relation.{Relation}
 use Rattle.claims.specs.Orders.{is_related}
@@ -98,7 +98,7 @@ or_again true b c h = refl
 or_again false b c h = h
 
 -- some motes and then others
-pub extends_on : (o : Order) (r : ReportModel) (l : Found) (n : ℕ) (us ws : List Watch) (i j k : Option Found) → Extends o r l n us i j → Extends o r l n ws j k → Extends o r l n (us ++ ws) i k
+pub extends_on : (o : Order) (r : ReportModel) (l : Found) (n : ℕ) (us ws : List Watched) (i j k : Option Found) → Extends o r l n us i j → Extends o r l n ws j k → Extends o r l n (us ++ ws) i k
 extends_on o r l n us ws i j k s t = record {
   event = λ q h. ap (λ v. some_is q i || v) (list_any-append (any_in q r o.event) us ws)
       ∙ or_again (some_is q i) (list_any (any_in q r o.event) us) (list_any (any_in q r o.event) ws)

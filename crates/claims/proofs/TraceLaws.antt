@@ -8,7 +8,7 @@ use Rattle.std.proofs.lemmas.List.FromFn.{length-enumerate_from, get_or-enumerat
 use Rattle.mote_net.specs.Report.{ReportModel}
 use Rattle.trace_lines.specs.declared.line.Line.{Line}
 use Rattle.claims.specs.declared.trace.Found.{Found}
-use Rattle.claims.specs.declared.trace.Watch.{Watch}
+use Rattle.claims.specs.declared.trace.Watched.{Watched}
 use Rattle.claims.specs.declared.order.Order.{Order}
 use Rattle.claims.specs.Orders.{is_related}
 use Rattle.claims.specs.Traces.{found_at, trace_at, shows}
@@ -36,7 +36,7 @@ moment_at : (T : List Line) (i : ℕ) (d : ℕ × Line) → i < length T → (ge
 moment_at T i d g = ap (λ x. x.1.at) (get_or-enumerate_from 0 T i d g)
 
 -- one line
-pub scan_step : (o : Order) (l : Found) (w : Watch) (T : List Line) (i : ℕ) (d : Line) (k : Option Found) → i < length T → scan o l w (drop i (enumerate_from 0 T)) k ≡ scan o l w (drop (i + 1) (enumerate_from 0 T)) (step (shows o.event w (get_or T i d)) o.relation l (record { mote = w.mote; place = i; line = get_or T i d }) k)
+pub scan_step : (o : Order) (l : Found) (w : Watched) (T : List Line) (i : ℕ) (d : Line) (k : Option Found) → i < length T → scan o l w (drop i (enumerate_from 0 T)) k ≡ scan o l w (drop (i + 1) (enumerate_from 0 T)) (step (shows o.event w (get_or T i d)) o.relation l (record { mote = w.mote; place = i; line = get_or T i d }) k)
 scan_step o l w T i d k g =
     let E = enumerate_from 0 T in
     let at : ℕ → ℕ × Line = λ n. (n, get_or T i d) in
@@ -44,7 +44,7 @@ scan_step o l w T i d k g =
     (drop_more E i (0, d) (omega (arith, length-enumerate_from 0 T)) ∙ ap (λ (x : ℕ × Line). x ∷ drop (i + 1) E) (get_or-enumerate_from 0 T i (0, d) g ∙ ap at (zero-add i)))
 
 -- from a line beyond the reach on, a sorted trace changes nothing
-pub scan_beyond : (o : Order) (l : Found) (w : Watch) (T : List Line) (i : ℕ) (k : Option Found) → rises_from 0 T ≡ true → ((d : Line) → reach o.relation l < (get_or T i d).at) → scan o l w (drop i (enumerate_from 0 T)) k ≡ k
+pub scan_beyond : (o : Order) (l : Found) (w : Watched) (T : List Line) (i : ℕ) (k : Option Found) → rises_from 0 T ≡ true → ((d : Line) → reach o.relation l < (get_or T i d).at) → scan o l w (drop i (enumerate_from 0 T)) k ≡ k
 scan_beyond o l w T i k s h =
     scan_far o l w (drop i (enumerate_from 0 T)) k
     (λ j d g.
@@ -78,7 +78,7 @@ or_none : (a : Bool) → (a || false) ≡ true → a ≡ true
 or_none true h = refl
 or_none false h = h
 
-extends_here : (o : Order) (r : ReportModel) (l : Found) (n : ℕ) (w : Watch) (c : ℕ) (i k : Option Found) → ((j : ℕ) (d : Line) → j < c → (get_or (trace_at r w.mote) j d).at < n) → k ≡ scan o l w (drop c (enumerate_from 0 (trace_at r w.mote))) i → Extends o r l n (w ∷ []) i k
+extends_here : (o : Order) (r : ReportModel) (l : Found) (n : ℕ) (w : Watched) (c : ℕ) (i k : Option Found) → ((j : ℕ) (d : Line) → j < c → (get_or (trace_at r w.mote) j d).at < n) → k ≡ scan o l w (drop c (enumerate_from 0 (trace_at r w.mote))) i → Extends o r l n (w ∷ []) i k
 extends_here o r l n w c i k early e =
     let E = enumerate_from 0 (trace_at r w.mote) in
     subst (λ (v : Option Found). Extends o r l n (w ∷ []) i v) (sym e)
@@ -100,7 +100,7 @@ extends_here o r l n w c i k early e =
     })
 
 -- the lines of a trace from one on, if those before it are before a moment
-pub extends_by : (o : Order) (r : ReportModel) (l : Found) (n : ℕ) (w : Watch) (T : List Line) (c : ℕ) (i k : Option Found) → T ≡ trace_at r w.mote → ((j : ℕ) (d : Line) → j < c → (get_or T j d).at < n) → k ≡ scan o l w (drop c (enumerate_from 0 T)) i → Extends o r l n (w ∷ []) i k
+pub extends_by : (o : Order) (r : ReportModel) (l : Found) (n : ℕ) (w : Watched) (T : List Line) (c : ℕ) (i k : Option Found) → T ≡ trace_at r w.mote → ((j : ℕ) (d : Line) → j < c → (get_or T j d).at < n) → k ≡ scan o l w (drop c (enumerate_from 0 T)) i → Extends o r l n (w ∷ []) i k
 extends_by o r l n w T c i k t early e =
     let P : List Line → Type 0 = λ U. ((j : ℕ) (d : Line) → j < c → (get_or U j d).at < n) → k ≡ scan o l w (drop c (enumerate_from 0 U)) i → Extends o r l n (w ∷ []) i k in
     subst P (sym t) (extends_here o r l n w c i k) early e

@@ -16,3 +16,6 @@ pub mod Medium
 pub mod Counts
 pub mod Ratios
 pub mod Claims
+pub mod Witnesses
+pub mod Differences
+pub mod Shows

@@ -3,7 +3,7 @@ use Rattle.std.specs.Prelude.{ℕ, Bool, true, ◌&&◌, ◌==◌, not, if◌the
 use Rattle.std.specs.List.{enumerate_from, list_any}
 use Rattle.mote_net.specs.Report.{ReportModel}
 use Rattle.claims.specs.declared.trace.Found.{Found}
-use Rattle.claims.specs.declared.trace.Watch.{Watch}
+use Rattle.claims.specs.declared.trace.Watched.{Watched}
 use Rattle.claims.specs.declared.trace.Deed.{Deed}
 use Rattle.claims.specs.declared.lines.Lines.{Lines}
 use Rattle.claims.specs.declared.values.Mark.{Mark}
@@ -17,19 +17,19 @@ use Rattle.claims.specs.Values.{is_earlier, is_value, is_last}
 use Rattle.claims.specs.Compared.{has_same_value, rank, meets}
 
 -- whether a line of a mote passes a test
-abbrev pub any_in : (Found → Bool) → ReportModel → Deed → Watch → Bool
+abbrev pub any_in : (Found → Bool) → ReportModel → Deed → Watched → Bool
 any_in q r d w = list_any (λ e. shows d w e.1 && q (found_at w.mote e)) (enumerate_from 0 (trace_at r w.mote))
 
 -- how many lines of a mote pass a test
-abbrev pub count_in : (Found → Bool) → ReportModel → Deed → Watch → ℕ
+abbrev pub count_in : (Found → Bool) → ReportModel → Deed → Watched → ℕ
 count_in q r d w = count_by (λ e. shows d w e.1 && q (found_at w.mote e)) (enumerate_from 0 (trace_at r w.mote))
 
 -- the line is in the period of the watch, fits the deed's pattern, and has the order
-abbrev pub is_counted : Lines → ReportModel → Watch → Found → Bool
+abbrev pub is_counted : Lines → ReportModel → Watched → Found → Bool
 is_counted s r w f = shows s.deed w f.line && is_wanted s.order r f
 
 -- the lines of a mote that are counted
-abbrev pub counted_in : Lines → ReportModel → Watch → List Found
+abbrev pub counted_in : Lines → ReportModel → Watched → List Found
 counted_in s r w = filter (is_counted s r w) (lines_of_mote r w.mote)
 
 abbrev pub has_mark : Mark → Found → Bool

@@ -5,7 +5,7 @@ use Rattle.std.specs.List.{list_any, list_all}
 use Rattle.mote_net.specs.Report.{ReportModel}
 use Rattle.trace_lines.specs.declared.line.Line.{Line}
 use Rattle.claims.specs.declared.trace.Found.{Found}
-use Rattle.claims.specs.declared.trace.Watch.{Watch}
+use Rattle.claims.specs.declared.trace.Watched.{Watched}
 use Rattle.claims.specs.declared.order.Order.{Order}
 use Rattle.claims.specs.declared.order.Relation.{Relation}
 use Rattle.claims.specs.declared.order.Relation.TheVariants.{After, NotBefore, Within, Followed}
@@ -65,7 +65,7 @@ pub record Stands (o : Order) (r : ReportModel) (l : Found) (p : Found → Bool)
   pub all : (b : Found) → is_followed l b ≡ true → list_any (λ e. p e && (is_related o.relation l e && is_related o.relation b e)) (lines_of r o.event) ≡ true → some_is (is_related o.relation b) known ≡ true
 
 -- one event becomes another by the events of some motes from a moment on
-pub record Extends (o : Order) (r : ReportModel) (l : Found) (from : ℕ) (ws : List Watch) (before after : Option Found) : Type 0 where
+pub record Extends (o : Order) (r : ReportModel) (l : Found) (from : ℕ) (ws : List Watched) (before after : Option Found) : Type 0 where
   pub event : (q : Found → Bool) → some_is q after ≡ true → (some_is q before || list_any (any_in q r o.event) ws) ≡ true
   pub related : each_is (is_related o.relation l) before ≡ true → each_is (is_related o.relation l) after ≡ true
   pub kept : (b : Found) → is_followed l b ≡ true → each_is (is_related o.relation l) before ≡ true → some_is (is_related o.relation b) before ≡ true → some_is (is_related o.relation b) after ≡ true

@@ -4,7 +4,7 @@ use Rattle.std.specs.List.{enumerate_from, flat_map, list_any}
 use Rattle.mote_net.specs.Report.{ReportModel}
 use Rattle.trace_lines.specs.declared.line.Line.{Line}
 use Rattle.claims.specs.declared.trace.Found.{Found}
-use Rattle.claims.specs.declared.trace.Watch.{Watch}
+use Rattle.claims.specs.declared.trace.Watched.{Watched}
 use Rattle.claims.specs.declared.trace.Deed.{Deed}
 use Rattle.claims.specs.Sets.{is_in}
 use Rattle.claims.specs.Patterns.{fits}
@@ -22,7 +22,7 @@ abbrev pub lines_of_mote : ReportModel → ℕ → List Found
 lines_of_mote r m = map (found_at m) (enumerate_from 0 (trace_at r m))
 
 -- the line is in the period of the watch, and fits one of the deed's patterns
-abbrev pub shows : Deed → Watch → Line → Bool
+abbrev pub shows : Deed → Watched → Line → Bool
 shows d w l = is_in w.when l.at && list_any (λ p. fits p l.what) d.patterns.items
 
 -- the lines of a deed: those of its motes, each in its period, that fit one of its patterns, mote by mote

@@ -1,28 +1,31 @@
 -- What a line of a trace says: its kind, and its numbers.
-use Rattle.std.specs.Prelude.{ℕ, Bool, Some, None}
+use Rattle.std.specs.Prelude.{ℕ, Bool, true, false, Some, None}
 use Rattle.program_tree.specs.declared.event.Proc.{Proc}
 use Rattle.program_tree.specs.declared.event.Target.TheVariants.{One}
-use Rattle.claims.specs.declared.what.Kinds.{Kinds}
+use Rattle.claims.specs.declared.what.LineKind.{LineKind}
+use Rattle.claims.specs.declared.what.LineKind.TheVariants as kind
 use Rattle.claims.specs.declared.what.Said.{Said}
 use Rattle.trace_lines.specs.declared.line.What.{What}
 use Rattle.trace_lines.specs.declared.line.What.TheVariants.{Start, Leave, Post, Full, Take, Drop, Print, Busy, Halt}
-use Rattle.trace_lines.specs.declared.line.What.TheVariants.{Send, Recv, Lost, Deaf, Collide}
+use Rattle.trace_lines.specs.declared.line.What.TheVariants.{Send, Recv, Lost, Deaf, Collide, Boots}
 
-abbrev pub has_kind : Kinds → What → Bool
-has_kind k (Start p) = k.start
-has_kind k (Leave p) = k.leave
-has_kind k (Post n t e w) = k.post
-has_kind k (Full t e w) = k.full
-has_kind k (Take n p) = k.take
-has_kind k (Drop n p) = k.drop
-has_kind k (Print p v) = k.print
-has_kind k (Busy p) = k.busy
-has_kind k Halt = k.halt
-has_kind k (Send n v) = k.send
-has_kind k (Recv f n v) = k.recv
-has_kind k (Lost f n) = k.lost
-has_kind k (Deaf f n) = k.deaf
-has_kind k (Collide f n) = k.collide
+abbrev pub is_of : LineKind → What → Bool
+is_of kind.Start (Start p) = true
+is_of kind.Leave (Leave p) = true
+is_of kind.Post (Post n t e w) = true
+is_of kind.Full (Full t e w) = true
+is_of kind.Take (Take n p) = true
+is_of kind.Drop (Drop n p) = true
+is_of kind.Print (Print p v) = true
+is_of kind.Busy (Busy p) = true
+is_of kind.Halt Halt = true
+is_of kind.Send (Send n v) = true
+is_of kind.Recv (Recv f n v) = true
+is_of kind.Lost (Lost f n) = true
+is_of kind.Deaf (Deaf f n) = true
+is_of kind.Collide (Collide f n) = true
+is_of kind.Boots Boots = true
+is_of k w = false
 
 -- a line about nothing
 abbrev pub nothing : Said
@@ -51,3 +54,4 @@ said_by (Recv f n v) = record (about_packet f n) { value = Some v }
 said_by (Lost f n) = about_packet f n
 said_by (Deaf f n) = about_packet f n
 said_by (Collide f n) = about_packet f n
+said_by Boots = nothing

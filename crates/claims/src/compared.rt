@@ -8,7 +8,7 @@ ghost use Rattle.claims.specs.Compared.{has_same_value, often, rank, meets, is_c
 
 use crate::limits::Limits;
 use crate::set::is_this;
-use crate::trace::{Deed, Found, Watch, trace_of};
+use crate::trace::{Deed, Found, Watched, trace_of};
 use crate::values::Mark;
 use mote_net::Report;
 
@@ -82,7 +82,7 @@ impl Deed {
         model.has_same_value(line) && self.is_placed(report, place, line)
     }
 
-    fn has_like_in(&self, report: &Report, place: Place, model: &Found, watch: Watch) -> bool
+    fn has_like_in(&self, report: &Report, place: Place, model: &Found, watch: Watched) -> bool
         ensures value { result ≡ any_in (is_like (lines_of (report_of report.now) self.now) place model.now) (report_of
             report.now) self.now watch }
     {
@@ -144,7 +144,7 @@ impl Comparison {
         if is_so { is_met } else { !is_met }
     }
 
-    fn has_in(&self, report: &Report, is_so: bool, watch: Watch) -> bool
+    fn has_in(&self, report: &Report, is_so: bool, watch: Watched) -> bool
         ensures value { result ≡ any_in (meets_so self.now (report_of report.now) is_so) (report_of report.now)
             self.now.deed watch }
     {

@@ -7,7 +7,7 @@ ghost use Rattle.claims.specs.Seen.{IsSeenBy};
 
 use crate::order::Order;
 use crate::seen::Seen;
-use crate::trace::{Deed, Found, Watch, trace_of};
+use crate::trace::{Deed, Found, Watched, trace_of};
 use mote_net::Report;
 
 /// The lines of a deed, or those of them that have an order.
@@ -42,7 +42,7 @@ impl Lines {
         }
     }
 
-    fn counts(&self, report: &Report, watch: Watch, seen: &mut Seen, line: &Found) -> bool
+    fn counts(&self, report: &Report, watch: Watched, seen: &mut Seen, line: &Found) -> bool
         requires { IsSeenBy self.now.order (report_of report.now) seen.old }
         ensures seen { IsSeenBy self.now.order (report_of report.now) seen.new }
         ensures value { result ≡ is_counted self.now (report_of report.now) watch line.now }
@@ -50,7 +50,7 @@ impl Lines {
         self.deed.shows(watch, &line.line) && self.are_in_order(report, seen, line)
     }
 
-    fn count_in(&self, report: &Report, watch: Watch, start: Seen) -> usize
+    fn count_in(&self, report: &Report, watch: Watched, start: Seen) -> usize
         requires { IsSeenBy self.now.order (report_of report.now) start }
         ensures value { result ≡ count_in (is_wanted self.now.order (report_of report.now)) (report_of report.now)
             self.now.deed watch }
@@ -82,7 +82,7 @@ impl Lines {
         count
     }
 
-    fn line_in(&self, report: &Report, watch: Watch, start: Seen, index: u64) -> Option<Found>
+    fn line_in(&self, report: &Report, watch: Watched, start: Seen, index: u64) -> Option<Found>
         requires { IsSeenBy self.now.order (report_of report.now) start }
         ensures value { result ≡ slice_get (counted_in self.now (report_of report.now) watch) index }
     {

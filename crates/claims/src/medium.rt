@@ -1,7 +1,7 @@
 //! Packets and copies in the log of the medium.
 ghost use Rattle.std.specs.Prelude.{◌≡◌, ◌≤◌, ◌*◌, length, count_by};
 ghost use Rattle.mote_net.specs.Report.{report_of, line_model};
-ghost use Rattle.claims.specs.Medium.{is_such_packet, packets_of, is_such_copy, has_arrival, copies_of, copies_in};
+ghost use Rattle.claims.specs.Medium.{is_such_packet, packets_of, is_such_copy, has_fate, copies_of, copies_in};
 
 use crate::set::{Set, Span, wants};
 use mote_net::{LogLine, Report};
@@ -16,7 +16,7 @@ pub struct Packets {
 
 /// What becomes of a copy in the medium.
 #[derive(Clone, Copy)]
-pub enum Arrival {
+pub enum CopyFate {
     /// The medium loses it; it was sent in these moments.
     Lost(Span),
     /// The medium loses it, or it arrives by this moment.
@@ -27,7 +27,7 @@ pub enum Arrival {
 #[derive(Drop)]
 pub struct Copies {
     pub to: Option<Set>,
-    pub arrival: Arrival,
+    pub fate: CopyFate,
 }
 
 impl Packets {
@@ -55,13 +55,13 @@ impl Packets {
     }
 }
 
-impl Arrival {
+impl CopyFate {
     fn is_of(&self, sent: &Sent, arrival: Option<u64>) -> bool
-        ensures value { result ≡ has_arrival self.now sent.now arrival }
+        ensures value { result ≡ has_fate self.now sent.now arrival }
     {
         match self {
-            Arrival::Lost(when) => arrival.is_none() && when.has(sent.at),
-            Arrival::Due(end) => match arrival {
+            CopyFate::Lost(when) => arrival.is_none() && when.has(sent.at),
+            CopyFate::Due(end) => match arrival {
                 None => true,
                 Some(at) => at <= *end,
             },
@@ -73,7 +73,7 @@ impl Copies {
     fn has(&self, sent: &Sent, fate: &Fate) -> bool
         ensures value { result ≡ is_such_copy self.now sent.now fate.now }
     {
-        wants(&self.to, Some(u64::from(fate.to))) && self.arrival.is_of(sent, fate.at)
+        wants(&self.to, Some(u64::from(fate.to))) && self.fate.is_of(sent, fate.at)
     }
 
     fn count_in(&self, line: &LogLine) -> usize

@@ -1,10 +1,10 @@
 //! Patterns of lines.
 ghost use Rattle.std.specs.Prelude.{◌≡◌};
-ghost use Rattle.claims.specs.Patterns.{fits, wants_all};
+ghost use Rattle.claims.specs.Patterns.{has_kind, fits, wants_all};
 
 use crate::process::wants_target;
 use crate::set::{Set, wants};
-use crate::what::{Kinds, Said};
+use crate::what::{LineKind, Said};
 use program_tree::Target;
 use trace_lines::What;
 
@@ -12,7 +12,7 @@ use trace_lines::What;
 /// fit. A part that is `None` may be anything, or missing.
 #[derive(Drop)]
 pub struct Pattern {
-    pub kinds: Kinds,
+    pub kinds: Vec<LineKind>,
     pub target: Option<Target>,
     pub serial: Option<Set>,
     pub event: Option<Set>,
@@ -22,6 +22,12 @@ pub struct Pattern {
 }
 
 impl Pattern {
+    fn has_kind(&self, what: &What) -> bool
+        ensures value { result ≡ has_kind self.now what.now }
+    {
+        self.kinds.iter().any(|kind| kind.is_of(what))
+    }
+
     fn wants(&self, said: &Said) -> bool
         ensures value { result ≡ wants_all self.now said.now }
     {
@@ -37,6 +43,6 @@ impl Pattern {
     pub fn fits(&self, what: &What) -> bool
         ensures value { result ≡ fits self.now what.now }
     {
-        self.kinds.has(what) && self.wants(&Said::by(what))
+        self.has_kind(what) && self.wants(&Said::by(what))
     }
 }

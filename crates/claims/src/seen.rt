@@ -10,7 +10,7 @@ ghost use Rattle.claims.specs.Seen.{is_followed, reach, lasts, known_with, still
 ghost use Rattle.claims.specs.Seen.{rises_from, are_sorted};
 
 use crate::order::{Order, Relation};
-use crate::trace::{Found, Watch, trace_of};
+use crate::trace::{Found, Watched, trace_of};
 use mote_net::Report;
 use trace_lines::Line;
 
@@ -180,7 +180,7 @@ impl Order {
 
     fn known_with(
         &self,
-        watch: Watch,
+        watch: Watched,
         line: &Found,
         event: &Found,
         known: Option<Found>,
@@ -199,7 +199,7 @@ impl Order {
         &self,
         report: &Report,
         is_sorted: bool,
-        watch: Watch,
+        watch: Watched,
         line: &Found,
         start: Start,
     ) -> Option<Found>

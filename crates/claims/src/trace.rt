@@ -13,7 +13,7 @@ use trace_lines::{Line, What};
 
 /// A mote, and the period in which its lines count.
 #[derive(Clone, Copy)]
-pub struct Watch {
+pub struct Watched {
     pub mote: u16,
     pub when: Span,
 }
@@ -21,7 +21,7 @@ pub struct Watch {
 /// The lines of some motes, each in its period, that fit one of some patterns.
 #[derive(Drop)]
 pub struct Deed {
-    pub watches: Vec<Watch>,
+    pub watches: Vec<Watched>,
     pub patterns: Vec<Pattern>,
 }
 
@@ -37,7 +37,7 @@ impl Deed {
     fn add_lines(
         &self,
         report: &Report,
-        watch: Watch,
+        watch: Watched,
         found: &mut Vec<Found>,
     ) -> Result<(), AllocError>
         ensures added { OnOk result (found.new.items ≡ found.old.items
@@ -76,7 +76,7 @@ impl Deed {
     }
 
     /// Returns whether a line of a mote is in its period, and fits one of the patterns.
-    pub fn shows(&self, watch: Watch, line: &Line) -> bool
+    pub fn shows(&self, watch: Watched, line: &Line) -> bool
         ensures value { result ≡ shows self.now watch line.now }
     {
         watch.when.has(line.at) && self.fits(&line.what)

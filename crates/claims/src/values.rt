@@ -9,7 +9,7 @@ ghost use Rattle.claims.specs.Values.{is_earlier, value_of, has_value, is_such, 
 ghost use Rattle.claims.specs.Values.{is_as_often, have_in_any_order, is_last, ends_in, last_has};
 
 use crate::set::{Set, is_this};
-use crate::trace::{Deed, Found, Watch, trace_of};
+use crate::trace::{Deed, Found, Watched, trace_of};
 use crate::what::Said;
 use mote_net::Report;
 
@@ -76,7 +76,7 @@ impl Mark {
 }
 
 impl Deed {
-    fn count_marked_in(&self, report: &Report, mark: Mark, watch: Watch) -> usize
+    fn count_marked_in(&self, report: &Report, mark: Mark, watch: Watched) -> usize
         ensures value { result ≡ count_in (has_mark mark) (report_of report.now) self.now watch }
     {
         trace_of(report, watch.mote)
@@ -116,7 +116,7 @@ impl Deed {
         self.count_marked(report, Mark::EarlierThan(*line)) == index as u128
     }
 
-    fn is_there_in(&self, report: &Report, index: usize, set: &Set, watch: Watch) -> bool
+    fn is_there_in(&self, report: &Report, index: usize, set: &Set, watch: Watched) -> bool
         ensures value { result ≡ any_in (is_such (lines_of (report_of report.now) self.now) index set.now) (report_of
             report.now) self.now watch }
     {
@@ -194,7 +194,7 @@ impl Deed {
         self.has_length(report, values.len()) && self.has_each_as_often(report, values)
     }
 
-    fn has_later_in(&self, report: &Report, line: &Found, watch: Watch) -> bool
+    fn has_later_in(&self, report: &Report, line: &Found, watch: Watched) -> bool
         ensures value { result ≡ any_in (is_earlier line.now) (report_of report.now) self.now watch }
     {
         trace_of(report, watch.mote).iter().enumerate().any(|(place, other)| {
@@ -228,7 +228,7 @@ impl Deed {
         line.has_value(set) && self.is_last(report, line)
     }
 
-    fn last_has_in(&self, report: &Report, set: &Set, watch: Watch) -> bool
+    fn last_has_in(&self, report: &Report, set: &Set, watch: Watched) -> bool
         ensures value { result ≡ any_in (ends_in set.now (lines_of (report_of report.now) self.now)) (report_of
             report.now) self.now watch }
     {

@@ -1,27 +1,28 @@
 //! What a line of a trace says: its kind, and its parts.
 ghost use Rattle.std.specs.Prelude.{◌≡◌};
-ghost use Rattle.claims.specs.Whats.{has_kind, said_by, nothing, about, about_packet};
+ghost use Rattle.claims.specs.Whats.{is_of, said_by, nothing, about, about_packet};
 
 use program_tree::{Proc, Target};
 use trace_lines::What;
 
-/// Kinds of lines.
-#[derive(Clone, Copy, Default)]
-pub struct Kinds {
-    pub start: bool,
-    pub leave: bool,
-    pub post: bool,
-    pub full: bool,
-    pub take: bool,
-    pub drop: bool,
-    pub print: bool,
-    pub busy: bool,
-    pub halt: bool,
-    pub send: bool,
-    pub recv: bool,
-    pub lost: bool,
-    pub deaf: bool,
-    pub collide: bool,
+/// A kind of lines.
+#[derive(Clone, Copy)]
+pub enum LineKind {
+    Start,
+    Leave,
+    Post,
+    Full,
+    Take,
+    Drop,
+    Print,
+    Busy,
+    Halt,
+    Send,
+    Recv,
+    Lost,
+    Deaf,
+    Collide,
+    Boots,
 }
 
 /// The parts of a line: the process or processes that it is about, the serial of an event, the number of an event, the
@@ -36,26 +37,27 @@ pub struct Said {
     pub value: Option<u64>,
 }
 
-impl Kinds {
-    /// Returns whether the event has one of the kinds.
-    pub fn has(&self, what: &What) -> bool
-        ensures value { result ≡ has_kind self.now what.now }
+impl LineKind {
+    /// Returns whether a line with this event is of the kind.
+    pub fn is_of(self, what: &What) -> bool
+        ensures value { result ≡ is_of self what.now }
     {
-        match what {
-            What::Start(_) => self.start,
-            What::Leave(_) => self.leave,
-            What::Post(_, _, _, _) => self.post,
-            What::Full(_, _, _) => self.full,
-            What::Take(_, _) => self.take,
-            What::Drop(_, _) => self.drop,
-            What::Print(_, _) => self.print,
-            What::Busy(_) => self.busy,
-            What::Halt => self.halt,
-            What::Send(_, _) => self.send,
-            What::Recv(_, _, _) => self.recv,
-            What::Lost(_, _) => self.lost,
-            What::Deaf(_, _) => self.deaf,
-            What::Collide(_, _) => self.collide,
+        match self {
+            LineKind::Start => matches!(what, What::Start(_)),
+            LineKind::Leave => matches!(what, What::Leave(_)),
+            LineKind::Post => matches!(what, What::Post(_, _, _, _)),
+            LineKind::Full => matches!(what, What::Full(_, _, _)),
+            LineKind::Take => matches!(what, What::Take(_, _)),
+            LineKind::Drop => matches!(what, What::Drop(_, _)),
+            LineKind::Print => matches!(what, What::Print(_, _)),
+            LineKind::Busy => matches!(what, What::Busy(_)),
+            LineKind::Halt => matches!(what, What::Halt),
+            LineKind::Send => matches!(what, What::Send(_, _)),
+            LineKind::Recv => matches!(what, What::Recv(_, _, _)),
+            LineKind::Lost => matches!(what, What::Lost(_, _)),
+            LineKind::Deaf => matches!(what, What::Deaf(_, _)),
+            LineKind::Collide => matches!(what, What::Collide(_, _)),
+            LineKind::Boots => matches!(what, What::Boots),
         }
     }
 }
@@ -120,7 +122,7 @@ impl Said {
                 value: Some(u64::from(*v)),
                 ..Said::about(*p)
             },
-            What::Halt => Said::nothing(),
+            What::Halt | What::Boots => Said::nothing(),
             What::Send(n, v) => Said {
                 packet: Some(*n),
                 value: Some(u64::from(*v)),

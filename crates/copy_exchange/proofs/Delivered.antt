@@ -14,9 +14,9 @@ use Rattle.copy_inbox.specs.declared.rule.SenderState.{SenderState}
 use Rattle.copy_inbox.specs.Handles.{InboxId, TakerView, SenderView, after_pushing}
 use Rattle.copy_exchange.specs.declared.endpoint.Endpoint.{Endpoint}
 use Rattle.copy_exchange.specs.Takers.{copies_in, IsOrderly}
-use Rattle.worker_cut.specs.Crossed.{is_to}
+use Rattle.copy_exchange.specs.Crossed.{is_to}
 use Rattle.copy_exchange.specs.Endpoints.{IsEndpoint, IsOnInboxes, IsSenderOn, Leaves, Stays, Delivers, sender_to, delivered, pushed_by, pushed_list, pushed_to, identity_of}
-use Rattle.worker_cut.proofs.Owners.{own_is}
+use Rattle.copy_exchange.proofs.Owners.{own_is}
 use Rattle.copy_exchange.proofs.Parts.{copies_in-append}
 
 pub same_at : (senders : List (Option SenderView)) (v : ℕ) (d e : Option SenderView) → v < length senders → get_or senders v d ≡ get_or senders v e

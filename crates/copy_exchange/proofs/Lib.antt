@@ -16,3 +16,9 @@ pub mod Rows
 pub mod Starts
 pub mod Whole
 pub mod Windows
+pub mod Counts
+pub mod Crossed
+pub mod CrossesTo
+pub mod Cuts
+pub mod Owners
+pub mod CutWindows

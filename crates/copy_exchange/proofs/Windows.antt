@@ -11,7 +11,7 @@ use Rattle.copy_inbox.proofs.Parts.{part-not_nil}
 use Rattle.copy_exchange.specs.declared.endpoint.Endpoint.{Endpoint}
 use Rattle.window_laws.specs.Windows.{is_from_sender}
 use Rattle.copy_exchange.specs.Takers.{IsOrderly}
-use Rattle.worker_cut.specs.Crossed.{is_to}
+use Rattle.copy_exchange.specs.Crossed.{is_to}
 use Rattle.copy_exchange.specs.Endpoints.{IsEndpoint, Collects, Delivers, StartsAs, Returns}
 use Rattle.copy_exchange.specs.Inboxes.{IsFresh, IsSettled}
 use Rattle.copy_exchange.proofs.Delivered.{stays_on}

@@ -4,7 +4,7 @@ use Rattle.std.specs.Prelude.{slice_get, slice_index, slice_index_or, Option, So
 use Rattle.std.specs.List.{AllByRecursion as Each, AllZip, filter_map, flat_map, range_with_len}
 use Rattle.std.specs.Option.{IsSomeAnd}
 use Rattle.radio_packet.specs.declared.copy.RadioCopy.{RadioCopy}
-use Rattle.worker_cut.specs.Crossed.{is_to}
+use Rattle.copy_exchange.specs.Crossed.{is_to}
 use Rattle.copy_inbox.specs.declared.items.Carried.{Carried}
 use Rattle.copy_inbox.specs.declared.items.Carried.TheVariants.{Packet, Mark}
 use Rattle.copy_inbox.specs.declared.rule.TakerState.{TakerState}

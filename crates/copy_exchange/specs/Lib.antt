@@ -7,3 +7,7 @@ pub mod Marks
 pub mod Pushes
 pub mod Steps
 pub mod Takers
+pub mod Crossed
+pub mod CrossesTo
+pub mod Cut
+pub mod CutLaws

@@ -9,6 +9,7 @@ ghost use Rattle.copy_exchange.specs.Expected.{position_of};
 ghost use Rattle.copy_exchange.specs.Marks.{AreTakersCounts, AllPast};
 
 use crate::heard::{all_past, no_marks};
+use crate::is_own;
 use crate::wait::{Waiting, wait};
 use copy_inbox::{Carried, Inbox, Item, Taker};
 use fork_join::Watch;
@@ -16,7 +17,6 @@ use radio_packet::RadioCopy;
 use std::alloc::{AllocError, AllocFailed, Global};
 use std::sync::Wait;
 use std::sync::ledger::Ledger;
-use worker_cut::is_own;
 
 /// The reason why a worker stopped taking items.
 #[derive(Clone, Copy, Debug, PartialEq, Eq)]

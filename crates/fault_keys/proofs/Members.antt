@@ -10,11 +10,11 @@ use Rattle.radio_faults.specs.declared.fault.Fault.TheVariants.{Silent}
 use Rattle.radio_faults.specs.Faults.{names}
 use Rattle.mote_net.specs.Report.{Packet, ReportModel}
 use Rattle.serial_run.specs.FaultLaws.{is_of_motes, is_some, may_change, names_copy_in, names_copy_of}
-use Rattle.offer_laws.proofs.Offers.{nets_offer_all}
+use Rattle.fault_keys.proofs.OfferLaws.{nets_offer_all}
 use Rattle.fault_keys.specs.Keys.{bound_of, fault_of, fault_of_copy, fixed_keys, keys_of_copy, keys_of_fate, keys_of_packet, named_keys, packed, unpacked}
 use Rattle.fault_keys.specs.Laws.{KeysOfferAll, runs_of}
-use Rattle.fault_keys.specs.declared.candidates.CopyFault.{CopyFault}
-use Rattle.fault_keys.specs.declared.candidates.CopyFault.TheVariants.{Lost, Late}
+use Rattle.fault_keys.specs.declared.keys.CopyFault.{CopyFault}
+use Rattle.fault_keys.specs.declared.keys.CopyFault.TheVariants.{Lost, Late}
 use Rattle.fault_keys.proofs.Lists.{any_from, any_of, filter_has, filter_in, fine_none, flat_has, in_flat, in_map, map_has, new_members, range_has, range_in}
 use Rattle.fault_keys.proofs.Packed.{IsUnpacked, number_below, packed_below, packs, unpacks}
 

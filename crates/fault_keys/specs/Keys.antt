@@ -7,8 +7,8 @@ use Rattle.radio_faults.specs.declared.fault.Fault.{Fault}
 use Rattle.radio_faults.specs.declared.fault.Fault.TheVariants.{Silent, Lost as LostCopy, Late as LateCopy}
 use Rattle.mote_net.specs.Report.{Packet, ReportModel}
 use Rattle.serial_run.specs.FaultLaws.{is_some, may_change}
-use Rattle.fault_keys.specs.declared.candidates.CopyFault.{CopyFault}
-use Rattle.fault_keys.specs.declared.candidates.CopyFault.TheVariants.{Lost, Late}
+use Rattle.fault_keys.specs.declared.keys.CopyFault.{CopyFault}
+use Rattle.fault_keys.specs.declared.keys.CopyFault.TheVariants.{Lost, Late}
 
 -- the fault of this kind of a copy of packet n of mote s for mote r
 abbrev pub fault_of_copy : CopyFault → (s n r : ℕ) → Fault

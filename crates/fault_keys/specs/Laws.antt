@@ -6,7 +6,7 @@ use Rattle.mote_net.specs.Report.{ReportModel}
 use Rattle.serial_run.specs.FaultRun.{IsReportWith}
 use Rattle.survey.specs.Premise.{Runs, OffersAll}
 use Rattle.fault_keys.specs.Keys.{bound_of, fault_of, offered_keys}
-use Rattle.fault_keys.specs.declared.candidates.CopyFault.{CopyFault}
+use Rattle.fault_keys.specs.declared.keys.CopyFault.{CopyFault}
 
 -- the runs of a net with the faults of each set of keys, of which `report` has the reports
 abbrev pub runs_of : (fixed : List Fault) → List CopyFault → (report : List ℕ → ReportModel) → (claims : ℕ)

@@ -8,7 +8,7 @@ ghost use Rattle.serial_run.specs.FaultLaws.{is_of_motes, is_some, may_change, n
 ghost use Rattle.fault_keys.specs.Keys.{fixed_keys, keys_of_copy, keys_of_fate, keys_of_packet, named_keys, new_keys};
 ghost use Rattle.fault_keys.specs.Keys.{offered_keys, with_new};
 
-use crate::candidates::Candidates;
+use crate::keys::Candidates;
 use mote_net::{LogLine, Report};
 use radio_faults::Fault;
 use radio_packet::{Fate, Sent};
@@ -49,7 +49,7 @@ fn is_of_motes(fault: Fault) -> bool
     ensures value { result ≡ is_of_motes fault }
 {
     match fault {
-        Fault::OffFrom { .. } | Fault::OffUntil { .. } => true,
+        Fault::Off { .. } => true,
         _ => false,
     }
 }

@@ -143,6 +143,7 @@ note_apart p (what.Busy q) h = absurd h
 note_apart p what.Halt h = absurd h
 note_apart p (what.Send n v) h = absurd h
 note_apart p (what.Deaf f n) h = absurd h
+note_apart p what.Boots h = absurd h
 
 note_silent : (p : ℕ) (lines : List Line) (l : Line) → IsNote l.what → starts_and_prints (Own p) (lines ++ l ∷ []) ≡ starts_and_prints (Own p) lines
 note_silent p lines l n = traced_more (Own p) lines l ∙ ap (λ b. starts_and_prints (Own p) lines ++ (if b then l ∷ [] else [])) (note_apart p l.what n) ∙ append-nil _

@@ -4,11 +4,11 @@ use Rattle.std.proofs.lemmas.List.{map-append}
 use Rattle.std.specs.List.{All}
 use Rattle.std.proofs.lemmas.List.Elements.{All-head, All-tail, All-nil, All-cons}
 use Rattle.std.proofs.lemmas.Bool.Decides.{nat_tests}
-use Rattle.delivery_laws.specs.HandedOn.{is_on, ToAll, ToOne}
-use Rattle.delivery_laws.specs.Delivery.{DeliveryMachine, take_or_drop, DeliveryRuns, stays, Halts}
-use Rattle.delivery_laws.specs.View.{machine_at}
-use Rattle.delivery_laws.proofs.Joined.{runs_joined, halts_joined}
-use Rattle.delivery_laws.proofs.Views.{gives, begins, walks, numbers}
+use Rattle.kernel_laws.specs.HandedOn.{is_on, ToAll, ToOne}
+use Rattle.kernel_laws.specs.Delivery.{DeliveryMachine, take_or_drop, DeliveryRuns, stays, Halts}
+use Rattle.kernel_laws.specs.View.{machine_at}
+use Rattle.kernel_laws.proofs.Joined.{runs_joined, halts_joined}
+use Rattle.kernel_laws.proofs.Views.{gives, begins, walks, numbers}
 use Rattle.program_tree.specs.declared.event.Proc.{Proc}
 use Rattle.program_tree.specs.declared.event.Proc.TheVariants.{Own, Etimer, Ctimer, Radio}
 use Rattle.program_tree.specs.declared.event.Target.{Target}

@@ -29,3 +29,13 @@ pub mod Unanswered
 pub mod Watch
 pub mod WatchedBoot
 pub mod WatchedRuns
+pub mod Broken
+pub mod Ends
+pub mod Follows
+pub mod Given
+pub mod Joined
+pub mod Lines
+pub mod IsInState
+pub mod StartsAndHalts
+pub mod Views
+pub mod Whole

@@ -1,9 +1,9 @@
 -- After each call of a kernel, the mote's lines still agree with the mote.
 use Rattle.std.proofs.Common.{ℕ, ◌≡◌, ◌+◌, Bool, true, false, if◌then◌else◌, List, [], ◌∷◌, ◌++◌, refl, sym, ◌∙◌, subst, append-nil}
 use Rattle.std.proofs.lemmas.List.{map-append}
-use Rattle.delivery_laws.specs.HandedOn as handed
-use Rattle.delivery_laws.specs.View as view
-use Rattle.delivery_laws.proofs.Views.{goes_further, goes_to_halt, other_moves, goes_with_hands_on, halted_hands_on, goes_with_halts_last, halted_halts_last, goes_with_starts, halted_starts}
+use Rattle.kernel_laws.specs.HandedOn as handed
+use Rattle.kernel_laws.specs.View as view
+use Rattle.kernel_laws.proofs.Views.{goes_further, goes_to_halt, other_moves, goes_with_hands_on, halted_hands_on, goes_with_halts_last, halted_halts_last, goes_with_starts, halted_starts}
 use Rattle.program_tree.specs.declared.event.Proc.{Proc}
 use Rattle.trace_lines.specs.declared.line.Line.{Line}
 use Rattle.trace_lines.specs.declared.line.What.{What}
@@ -120,6 +120,7 @@ note_is_other (what.Busy p) h = absurd h
 note_is_other what.Halt h = absurd h
 note_is_other (what.Send n v) h = absurd h
 note_is_other (what.Deaf f n) h = absurd h
+note_is_other what.Boots h = absurd h
 
 traced_noted : (lines : List Line) (s : KernelState) (l : Line) → IsNote l.what → view.GoesWithView (seen_lines lines) (view_of s) → view.GoesWithView (seen_lines (lines ++ l ∷ [])) (view_of s)
 traced_noted lines s l n g = rw (map-append, note_is_other l.what n) (goes_further (seen_lines lines) (handed.Other ∷ []) (view_of s) (view_of s) g.walked g (other_moves (view_of s) g.walked []))

@@ -4,10 +4,10 @@ use Rattle.std.proofs.lemmas.List.{map-append}
 use Rattle.std.specs.List.{filter}
 use Rattle.std.proofs.lemmas.List.Elements.{All-nil, All-push}
 use Rattle.std.proofs.lemmas.Bool.Decides.{nat_tests}
-use Rattle.delivery_laws.specs.HandedOn as handed
-use Rattle.delivery_laws.specs.HandedOn.{without}
-use Rattle.delivery_laws.proofs.Views as views
-use Rattle.delivery_laws.proofs.Views.{Moves, in_state_still, moves_joined, stops_joined, other_moves, start_moves, leave_moves, post_moves, halt_stops}
+use Rattle.kernel_laws.specs.HandedOn as handed
+use Rattle.kernel_laws.specs.HandedOn.{without}
+use Rattle.kernel_laws.proofs.Views as views
+use Rattle.kernel_laws.proofs.Views.{Moves, in_state_still, moves_joined, stops_joined, other_moves, start_moves, leave_moves, post_moves, halt_stops}
 use Rattle.program_tree.specs.declared.event.Proc.{Proc}
 use Rattle.program_tree.specs.declared.event.Proc.TheVariants.{Own, Etimer, Ctimer, Radio}
 use Rattle.program_tree.specs.declared.event.Target.{Target}

@@ -4,7 +4,7 @@ use Rattle.std.proofs.Math.ListN.{replicate}
 use Rattle.std.proofs.lemmas.List.{get_or-replicate, length-replicate}
 use Rattle.std.proofs.lemmas.Option.{unwrap_or-slice_get}
 use Rattle.std.proofs.lemmas.Bool.Decides.{nat_tests}
-use Rattle.delivery_laws.specs.Delivery.{stays}
+use Rattle.kernel_laws.specs.Delivery.{stays}
 use Rattle.program_tree.specs.Code.{Tree}
 use Rattle.process_kernel.specs.declared.process.ProcessState.TheVariants.{Off}
 use Rattle.trace_lines.specs.declared.line.Line.{Line}

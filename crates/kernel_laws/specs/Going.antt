@@ -1,10 +1,10 @@
 -- The lines of a mote so far, and their agreement with the mote's state.
 use Rattle.std.specs.Prelude.{Bool, true, false, ◌≡◌, List, [], ◌++◌}
 use Rattle.std.specs.List.{All}
-use Rattle.delivery_laws.specs.HandedOn.{HandedOn}
-use Rattle.delivery_laws.specs.StartsAndHalts.{HaltIsLast, StartsTheUnlisted}
-use Rattle.delivery_laws.specs.View as view
-use Rattle.delivery_laws.specs.View.{HasHalted}
+use Rattle.kernel_laws.specs.HandedOn.{HandedOn}
+use Rattle.kernel_laws.specs.StartsAndHalts.{HaltIsLast, StartsTheUnlisted}
+use Rattle.kernel_laws.specs.View as view
+use Rattle.kernel_laws.specs.View.{HasHalted}
 use Rattle.program_tree.specs.declared.event.Proc.TheVariants.{Etimer}
 use Rattle.trace_lines.specs.declared.line.Line.{Line}
 use Rattle.trace_lines.specs.declared.line.What.{What}

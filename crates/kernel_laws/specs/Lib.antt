@@ -12,3 +12,9 @@ pub mod Seen
 pub mod Stamps
 pub mod Telling
 pub mod Traces
+pub mod Delivery
+pub mod HandedOn
+pub mod DeliveryLaws
+pub mod StartsAndHalts
+pub mod DeliveryTraces
+pub mod View

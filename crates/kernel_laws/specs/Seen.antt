@@ -1,9 +1,9 @@
 -- The lines and the state of the process kernel in the terms of the delivery machine.
 use Rattle.std.specs.Prelude.{List, map}
-use Rattle.delivery_laws.specs.HandedOn as handed
-use Rattle.delivery_laws.specs.HandedOn.{Incarnation, ToOne, ToAll}
-use Rattle.delivery_laws.specs.Delivery.{Waiting}
-use Rattle.delivery_laws.specs.View.{View}
+use Rattle.kernel_laws.specs.HandedOn as handed
+use Rattle.kernel_laws.specs.HandedOn.{Incarnation, ToOne, ToAll}
+use Rattle.kernel_laws.specs.Delivery.{Waiting}
+use Rattle.kernel_laws.specs.View.{View}
 use Rattle.program_tree.specs.declared.event.Target.{Target}
 use Rattle.program_tree.specs.declared.event.Target.TheVariants.{One, All}
 use Rattle.event_queue.specs.declared.queue.Posted.{Posted}

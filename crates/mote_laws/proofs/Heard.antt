@@ -34,6 +34,7 @@ no_note (what.Print p v) h = refl
 no_note (what.Busy p) h = refl
 no_note what.Halt h = refl
 no_note (what.Send n v) h = refl
+no_note what.Boots h = refl
 
 no_notes : (lines : List Line) → All (λ l. IsNote l.what → ⊥) lines → notes_in lines ≡ []
 no_notes [] h = refl

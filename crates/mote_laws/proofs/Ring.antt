@@ -148,6 +148,7 @@ none_received (what.Drop n p) h = refl
 none_received (what.Print p v) h = refl
 none_received (what.Busy p) h = refl
 none_received what.Halt h = refl
+none_received what.Boots h = refl
 none_received (what.Send n v) h = refl
 
 none_reported : (receiver : Option ℕ) (a : Arrival) (w : What) → TellsPacket receiver a w → received_of w ≡ []

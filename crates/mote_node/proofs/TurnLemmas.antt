@@ -4,10 +4,10 @@ use Rattle.program_tree.specs.Code.{Tree}
 use Rattle.process_kernel.specs.declared.kernel.Kernel.{Kernel}
 use Rattle.radio_packet.specs.declared.arrival.Arrival.{Arrival}
 use Rattle.trace_lines.specs.declared.out.Out.{Out}
-use Rattle.process_kernel.specs.KernelModel.{KernelModel, Underway, runs_of}
+use Rattle.process_kernel.specs.KernelModel.{KernelModel, Underway, runs_of, with_sent}
 use Rattle.process_kernel.specs.Public.{kernel_in, underway_in, GoesOn}
 use Rattle.process_kernel.specs.Views.{kernel_model_of}
-use Rattle.mote_node.specs.Turn.{hear_all, wake_at, boot_due, poll_due, most_runs, work_of, mote_turn}
+use Rattle.mote_node.specs.Turn.{hear_all, wake_after, wake_at, boot_due, poll_due, most_runs, work_of, mote_turn}
 use Rattle.mote_node.specs.Public.{node_over, wake_in}
 use Rattle.mote_node.proofs.StepLemmas.{underway, if_true, if_false, mote_step}
 
@@ -82,3 +82,19 @@ wakes_anyhow t t' k wake h =
 pub some_anyhow : (t t' : Tree) (k : Kernel) → IsSome (kernel_in t k) → IsSome (kernel_in t' k)
 unfolding kernel_in
 some_anyhow t t' k h = some_if k.failed _ _ h
+
+-- a kernel whose packets have another next number is still there, and its mote has the same next wake
+pub sent_there : (sent : ℕ) (old new : Option KernelModel) → new ≡ option_map (λ m. with_sent m sent) old → IsSome old → IsSome new
+sent_there sent None new e h = cc
+sent_there sent (Some m) new e h = rw e refl
+
+same_wake : (sent : ℕ) (last : Option ℕ) (m : KernelModel) → wake_at last (with_sent m sent) ≡ wake_at last m
+unfolding wake_after
+same_wake sent None m = refl
+same_wake sent (Some last) m = refl
+
+pub sent_wakes : (sent : ℕ) (old new : Option KernelModel) (wake last : Option ℕ) → new ≡ option_map (λ m. with_sent m sent) old
+    → IfSome old (λ m. wake ≡ wake_at last m) → IfSome new (λ m. wake ≡ wake_at last m)
+sent_wakes sent None new wake last e h = subst (λ n. IfSome n (λ m. wake ≡ wake_at last m)) (sym e) h
+sent_wakes sent (Some m) new wake last e h =
+    subst (λ n. IfSome n (λ k. wake ≡ wake_at last k)) (sym e) (h ∙ sym (same_wake sent last m))

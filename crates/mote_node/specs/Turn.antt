@@ -2,7 +2,7 @@
 use Rattle.std.specs.Prelude.{ℕ, nat_le, Bool, false, Option, Some, None, ◌+◌, max, if◌then◌else◌, option_map, List}
 use Rattle.std.specs.Prelude.{◌++◌, nat_lt, not, ◌&&◌, [], ◌∷◌, length, map}
 use Rattle.program_tree.specs.Code.{Tree}
-use Rattle.process_kernel.specs.KernelModel.{KernelModel, unbooted, is_pending, Underway, has_room, with_packet}
+use Rattle.process_kernel.specs.KernelModel.{KernelModel, unbooted, is_pending, Underway, has_room, with_packet, with_sent}
 use Rattle.process_kernel.specs.KernelModel.{with_poll, boot_given, runs_of, underway_after}
 use Rattle.mote_timers.specs.TimerLists.{next_expiration_of}
 use Rattle.trace_lines.specs.declared.line.Line.{Line}
@@ -28,6 +28,10 @@ is_past moment (Some last) = nat_le moment last
 
 abbrev pub with_collide : Bool → Node → Node
 with_collide collides n = record n { collides = collides }
+
+-- the node has sent so many packets
+abbrev pub node_with_sent : (sent : ℕ) → Node → Node
+node_with_sent sent n = record n { mote = with_sent n.mote sent }
 
 -- The wake after a turn at this moment. If events or polls are left, it is the next moment. Otherwise it is the moment
 -- at which the first timer is due, but not before the next moment. Without timers there is no wake.

@@ -120,7 +120,7 @@ fn is_past(moment: u64, last: Option<u64>) -> bool
 }
 
 impl Mote {
-    ghost use Rattle.mote_node.specs.Turn.{new_node, turn_of, with_collide};
+    ghost use Rattle.mote_node.specs.Turn.{new_node, node_with_sent, turn_of, with_collide};
     ghost use Rattle.mote_node.specs.Public.{node_in, wake_in, is_past_in, turn_given, turn_out_of};
 
     /// The mote with this number and program, before its first turn. Its event queue has room for this many events, 1
@@ -166,6 +166,22 @@ impl Mote {
         ensures node { (t : Tree) → node_in t self.new ≡ option_map (with_collide collide) (node_in t self.old) }
     {
         self.collide = collide;
+    }
+
+    /// The number of packets that the mote has sent, which is the number of its next packet.
+    #[tactic(auto, unfolding(crate::specs::Public::node_in))]
+    pub fn sent(&self) -> u64
+        ensures node { (t : Tree) → IfSome (node_in t self.now) (λ n. result ≡ n.mote.state.sent) }
+    {
+        self.kernel.sent()
+    }
+
+    /// Sets the number of the mote's next packet.
+    #[tactic(auto, unfolding(crate::specs::Public::node_in))]
+    pub fn set_sent(&mut self, sent: u64)
+        ensures node { (t : Tree) → node_in t self.new ≡ option_map (node_with_sent sent) (node_in t self.old) }
+    {
+        self.kernel.set_sent(sent);
     }
 
     /// The mote's next wake: 0 before its first turn, and none once it has halted or failed.

@@ -211,13 +211,6 @@ then_out false o x = refl
 
 -- the least moment and mote, if there is one
 
-filled_some : (xs : List Item) (d : Due) → gathered xs ≡ Some d → is_filled xs ≡ true
-filled_some [] d e = cc
-filled_some (x ∷ xs) d e = refl
-
-pub any_from_some : (t m : ℕ) (items : List Item) (d : Due) → due_of t m items ≡ Some d → list_any (comes_at t m) items ≡ true
-any_from_some t m items d e = sym (filled_any (comes_at t m) items) ∙ filled_some (filter (comes_at t m) items) d e
-
 -- if two lists have the same due events, one has a due event if and only if the other has one
 pub any_same : (t m : ℕ) (xs ys : List Item) → due_of t m xs ≡ due_of t m ys → list_any (comes_at t m) xs ≡ list_any (comes_at t m) ys
 any_same t m xs ys e = sym (filled_any (comes_at t m) xs) ∙ (both _ _ e ∙ filled_any (comes_at t m) ys)

@@ -37,6 +37,3 @@ next_left old new t b n total e h =
   where
     added : (a p q f n total : ℕ) → a ≡ p + q → p ≡ f → n + a ≡ total → (n + f) + q ≡ total
     added a p q f n total e g h = omega arith
-
-pub last_left : (es : Entries) (n total : ℕ) → es ≡ [] → n + length (packets (items_among es)) ≡ total → n ≡ total
-last_left es n total e h = let m = ap (λ l. length (packets (items_among l))) e in omega arith

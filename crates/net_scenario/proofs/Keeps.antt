@@ -9,7 +9,7 @@ use Rattle.std.specs.Int.Signed.{le_z}
 use Rattle.toml.specs.Data.{Data, string, integer, float, boolean, datetime, array, table, Members, get_member}
 use Rattle.net_scenario.specs.declared.version.Version.{Version}
 use Rattle.net_scenario.specs.declared.version.Version.TheVariants.{First}
-use Rattle.net_scenario.specs.declared.rules.Kind.TheVariants.{Number, Table}
+use Rattle.net_scenario.specs.declared.rules.KeyKind.TheVariants.{Number, Table}
 use Rattle.net_scenario.specs.Rules.{Rule, needed, has_come, known_in, keys_fault, has_kind, is_in_range, misses}
 use Rattle.net_scenario.specs.Rules.{holds_other_kind, holds_out_of_range}
 use Rattle.net_scenario.specs.Document.{HoldsNumber, HoldsTable, integer_at, number_at}

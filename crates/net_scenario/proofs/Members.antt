@@ -16,7 +16,7 @@ use Rattle.toml.specs.Data.{Members, no_members, member, get_member, as_array}
 use Rattle.net_scenario.specs.declared.version.Version.{Version}
 use Rattle.mote_net.specs.Limits.{shortest_queue, longest_queue}
 use Rattle.net_scenario.specs.Names.{values_any, queue_length, lengths_fault}
-use Rattle.net_scenario.specs.declared.rules.Kind.TheVariants.{Tables}
+use Rattle.net_scenario.specs.declared.rules.KeyKind.TheVariants.{Tables}
 use Rattle.net_scenario.specs.Rules.{items_len, are_tables, has_kind, is_in_range, needed}
 use Rattle.net_scenario.specs.Document.{HoldsNumber, integer_at, first_some, tables_in, items_at, program_fault}
 use Rattle.mote_net.specs.Programs.{NamedTree}

@@ -14,7 +14,7 @@ use Rattle.mote_net.specs.Programs.{NamedTree}
 use Rattle.net_scenario.specs.Programs.{ProgramText, AllRead, FirstRefused}
 use Rattle.net_scenario.specs.Net.{net_in}
 use Rattle.net_scenario.specs.Reading.{Document, document_of, IsNetOf, IsRefusedProgramOf, IsMediumFaultOf, TellsFault}
-use Rattle.net_scenario.specs.Laws.{ProgramLaws, OneNet, NeverBoth, OneFault}
+use Rattle.net_scenario.specs.Laws.{ProgramLaws, OneNet, NeverBoth, AtMostOneFault}
 
 one_document : (text : List ℕ) (d f : Document text) → d.top ≡ f.top
 one_document text d f = let a = d.is in let b = f.is in cc
@@ -147,7 +147,7 @@ of_medium laws text m WrongKind a b = let is = a.0.is in cc
 of_medium laws text m OutOfRange a b = let is = a.0.is in cc
 of_medium laws text m UnknownProgram a b = let is = a.0.is in cc
 
-pub one_fault : ProgramLaws → OneFault
+pub one_fault : ProgramLaws → AtMostOneFault
 one_fault laws text Toml f a b = of_tables text Toml f a b
 one_fault laws text MissingKey f a b = of_tables text MissingKey f a b
 one_fault laws text UnknownKey f a b = of_tables text UnknownKey f a b

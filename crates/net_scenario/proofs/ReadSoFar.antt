@@ -1,25 +1,18 @@
 -- Reading the programs of a table, one at a time.
-use Rattle.std.proofs.Common.{◌≡◌, map, List, [], ◌∷◌, ◌++◌, refl, sym, ◌∙◌, append_assoc, append-nil, Ok, Err}
+use Rattle.std.proofs.Common.{◌≡◌, map, List, [], ◌∷◌, ◌++◌, sym, ◌∙◌, append_assoc, append-nil, Ok}
 use Rattle.std.proofs.lemmas.List.{map-append}
 use Rattle.program_tree.specs.Reading.{IsTreeOf}
 use Rattle.mote_net.specs.declared.programs.NamedProgram.{NamedProgram}
-use Rattle.net_scenario.specs.declared.error.ScenarioError.{ScenarioError}
-use Rattle.net_scenario.specs.declared.error.ScenarioError.TheVariants.{Toml, MissingKey, UnknownKey, WrongKind}
-use Rattle.net_scenario.specs.declared.error.ScenarioError.TheVariants.{OutOfRange, UnknownProgram, Program, Medium}
-use Rattle.net_scenario.specs.declared.error.ScenarioError.TheVariants.{Memory}
 use Rattle.mote_net.specs.Programs.{NamedTree}
 use Rattle.mote_net.specs.Meaning.{named_tree}
 use Rattle.net_scenario.specs.Programs.{ProgramText, AllRead}
-use Rattle.net_scenario.specs.Reads.{ReadsProgram, ReadsPrograms}
+use Rattle.net_scenario.specs.Reads.{ReadsProgram}
 
 -- the programs that were read are a prefix of all programs, and the rest is still to be read
 pub record ReadSoFar (texts : List ProgramText) (trees : List NamedTree) (rest : List ProgramText) : Type 0 where
   pub before : List ProgramText
   pub split : texts ≡ before ++ rest
   pub read : AllRead before trees
-
-pub read_none : (texts : List ProgramText) → ReadSoFar texts [] texts
-read_none texts = record { before = []; split = refl; read = tt }
 
 all_read-push : (ps : List ProgramText) (ts : List NamedTree) (p : ProgramText) (t : NamedTree) → AllRead ps ts
     → t.name ≡ p.name → IsTreeOf p.text t.tree
@@ -44,24 +37,3 @@ pub read_all : (texts : List ProgramText) (ts : List NamedTree) → ReadSoFar te
 read_all texts ts s =
     let same : texts ≡ s.before = s.split ∙ append-nil s.before in
     rw same s.read
-
-pub read_failed : (texts : List ProgramText) (ts : List NamedTree) (p : ProgramText) (rest : List ProgramText)
-    (e : ScenarioError)
-    → ReadSoFar texts ts (p ∷ rest) → ReadsProgram p (Err e) → ReadsPrograms texts (Err e)
-read_failed texts ts p rest (Program name e) s r = record {
-  before = s.before;
-  text = p.text;
-  after = rest;
-  trees = ts;
-  split = rw r.0 s.split;
-  read = s.read;
-  matches = r.1;
-}
-read_failed texts ts p rest Memory s r = tt
-read_failed texts ts p rest Toml s r = absurd r
-read_failed texts ts p rest MissingKey s r = absurd r
-read_failed texts ts p rest UnknownKey s r = absurd r
-read_failed texts ts p rest WrongKind s r = absurd r
-read_failed texts ts p rest OutOfRange s r = absurd r
-read_failed texts ts p rest UnknownProgram s r = absurd r
-read_failed texts ts p rest (Medium e) s r = absurd r

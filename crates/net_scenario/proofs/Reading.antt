@@ -6,7 +6,6 @@ use Rattle.std.proofs.lemmas.List.{length-map}
 use Rattle.toml.specs.Data.{Members}
 use Rattle.toml.specs.Parse.{parse_document}
 use Rattle.radio_medium.specs.Medium.{Radio}
-use Rattle.radio_medium.specs.Makes.{MakesMedium}
 use Rattle.mote_net.specs.declared.net.MoteSetup.{MoteSetup as SetupOfCode}
 use Rattle.mote_net.specs.Limits.{fewest_motes, most_motes}
 use Rattle.net_scenario.specs.Limits.{longest_text}
@@ -14,7 +13,6 @@ use Rattle.net_scenario.specs.Rules.{top_rules}
 use Rattle.net_scenario.proofs.Each.{Faultless}
 use Rattle.net_scenario.proofs.Keeps.{keeps_all}
 use Rattle.net_scenario.proofs.Members.{tables_kept, tables_asked}
-use Rattle.radio_medium.specs.declared.error.MediumError.{MediumError}
 use Rattle.radio_medium.specs.declared.error.MediumError.TheVariants as medium
 use Rattle.net_scenario.specs.declared.error.ScenarioError.{ScenarioError}
 use Rattle.net_scenario.specs.declared.error.ScenarioError.TheVariants.{Toml, MissingKey, UnknownKey, WrongKind}
@@ -22,16 +20,14 @@ use Rattle.net_scenario.specs.declared.error.ScenarioError.TheVariants.{OutOfRan
 use Rattle.net_scenario.specs.declared.error.ScenarioError.TheVariants.{Memory}
 use Rattle.mote_net.specs.declared.net.Net.{Net}
 use Rattle.mote_net.specs.declared.programs.NamedProgram.{NamedProgram}
-use Rattle.net_scenario.specs.FaultNumbers.{of_medium}
 use Rattle.net_scenario.specs.Document.{version_of, natural, integer_at, natural_at, boolean_at, table_at, tables_at}
 use Rattle.net_scenario.specs.Document.{document_fault}
 use Rattle.mote_net.specs.Meaning.{named_tree}
 use Rattle.net_scenario.specs.Programs.{program_texts, AllRead}
-use Rattle.net_scenario.specs.Reads.{ReadsPrograms}
 use Rattle.mote_net.specs.Net.{MoteSetup}
 use Rattle.mote_net.specs.Meaning.{setup_of}
 use Rattle.net_scenario.specs.Net.{mote_of_table, place_in, radio_in}
-use Rattle.net_scenario.specs.Reading.{document_of, HasTrees, IsNetOf}
+use Rattle.net_scenario.specs.Reading.{document_of, IsNetOf}
 use Rattle.net_scenario.specs.Reads.{MakesRadio, MakesNet, Answers}
 
 -- the result for a document is the meaning of its text
@@ -47,39 +43,6 @@ answered text top (Err UnknownKey) is m = absurd m
 answered text top (Err WrongKind) is m = absurd m
 answered text top (Err OutOfRange) is m = absurd m
 answered text top (Err UnknownProgram) is m = absurd m
-
--- a program that can't be read
-pub refused : (top : Members) (e : ScenarioError) → ReadsPrograms (program_texts (table_at (codes "programs") top)) (Err e)
-    → MakesNet top (Err e)
-refused top (Program name e) m = m
-refused top Memory m = tt
-refused top (Medium e) m = absurd m
-refused top Toml m = absurd m
-refused top MissingKey m = absurd m
-refused top UnknownKey m = absurd m
-refused top WrongKind m = absurd m
-refused top OutOfRange m = absurd m
-refused top UnknownProgram m = absurd m
-
--- a medium that can't be made
-pub no_medium : (top : Members) (e : ScenarioError) (programs : HasTrees top) → MakesRadio (radio_in top) (Err e)
-    → MakesNet top (Err e)
-no_medium top (Program name e) programs m = absurd m
-no_medium top Memory programs m = tt
-no_medium top (Medium e) programs m = record { programs = programs; medium = m }
-no_medium top Toml programs m = absurd m
-no_medium top MissingKey programs m = absurd m
-no_medium top UnknownKey programs m = absurd m
-no_medium top WrongKind programs m = absurd m
-no_medium top OutOfRange programs m = absurd m
-no_medium top UnknownProgram programs m = absurd m
-
--- the fault of a medium as a fault of the scenario
-pub as_reported : (radio : Radio) (e : MediumError) → MakesMedium radio (Err e) → MakesRadio radio (Err (of_medium e))
-as_reported radio medium.Memory m = tt
-as_reported radio medium.ZeroBase m = m
-as_reported radio medium.ZeroPer m = m
-as_reported radio medium.BadLoss m = m
 
 -- a text that is short enough, and is TOML with tables without a fault, has this document
 pub document_is : (text : List ℕ) (top : Members) → length text ≤ longest_text → parse_document text ≡ Some top

@@ -22,11 +22,6 @@ use Rattle.net_scenario.specs.declared.rules.Key.{Key}
 use Rattle.net_scenario.specs.declared.error.TableFault.TheVariants.{MissingKey, UnknownKey, WrongKind, OutOfRange}
 use Rattle.net_scenario.specs.declared.error.TableFault.TheVariants.{UnknownProgram}
 
-pub list_any_map : {X Y : Type 0} (p : Y → Bool) (f : X → Y) (xs : List X)
-    → list_any p (map f xs) ≡ list_any (λ x. p (f x)) xs
-list_any_map p f [] = refl
-list_any_map p f (x ∷ xs) = ap (λ b. p (f x) || b) (list_any_map p f xs)
-
 pub are_tables_view : (vs : List Value) → are_tables (items_view vs) ≡ list_all (λ v. is_some (as_table (view v))) vs
 are_tables_view [] = refl
 are_tables_view (v ∷ vs) = ap (λ b. is_some (as_table (view v)) && b) (are_tables_view vs)

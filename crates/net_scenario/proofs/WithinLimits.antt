@@ -1,13 +1,13 @@
 -- A document without a fault keeps the limits of the medium.
-use Rattle.std.proofs.Common.{◌≡◌, ◌≤◌, ℕ, List, [], ◌∷◌, map, codes, refl, sym, ap, ℤ, pos, neg_ℤ, unsigned_abs}
-use Rattle.std.proofs.Common.{unwrap_or, Option, Some, None, lit<, All, zero, suc, arith}
+use Rattle.std.proofs.Common.{◌≡◌, ◌≤◌, ℕ, List, [], ◌∷◌, map, codes, refl, pos, neg_ℤ, unsigned_abs}
+use Rattle.std.proofs.Common.{Some, None, lit<, All, zero, suc, arith}
 use Rattle.std.proofs.lemmas.List.{length-map}
 use Rattle.toml.specs.Data.{Members}
 use Rattle.radio_medium.specs.Medium.{IsWithinLimits}
 use Rattle.radio_medium.specs.declared.place.Place.{Place}
-use Rattle.net_scenario.specs.Document.{version_of, natural, integer_at, table_at, tables_at, first_some}
+use Rattle.net_scenario.specs.Document.{version_of, integer_at, table_at, tables_at, first_some}
 use Rattle.mote_net.specs.Limits.{latest_end}
-use Rattle.net_scenario.specs.Net.{place_in, loss_of, radio_in}
+use Rattle.net_scenario.specs.Net.{place_in, loss_of}
 use Rattle.net_scenario.specs.Rules.{keys_fault, top_rules, medium_rules, mote_rules}
 use Rattle.net_scenario.specs.declared.version.Version.TheVariants.{First}
 use Rattle.net_scenario.proofs.Each.{Faultless, or_none}
@@ -30,23 +30,6 @@ pub all_near : (ts : List Members) → first_some (keys_fault mote_rules) ts ≡
 all_near [] h k d lt = absurd (omega arith)
 all_near (t ∷ ts) h zero d lt = near t (or_none _ _ h).0
 all_near (t ∷ ts) h (suc k) d lt = all_near ts (or_none _ _ h).1 k d (omega arith)
-
--- the medium that the code requests is the medium of the document
-pub same_radio : (top : Members) (range base per : ℕ)
-    → integer_at (codes "range") (table_at (codes "medium") top) ≡ Some (pos range)
-    → integer_at (codes "base") (table_at (codes "medium") top) ≡ Some (pos base)
-    → integer_at (codes "per") (table_at (codes "medium") top) ≡ Some (pos per)
-    → record {
-      places = map place_in (tables_at (codes "mote") top);
-      range = range;
-      base = base;
-      per = per;
-      losses = map loss_of (tables_at (codes "loss") top);
-    } ≡ radio_in top
-same_radio top range base per a b c =
-    let same : (o : Option ℤ) (n : ℕ) → o ≡ Some (pos n) → n ≡ natural (unwrap_or o (pos 0)) =
-    λ o n e. sym (ap (λ (p : Option ℤ). natural (unwrap_or p (pos 0))) e) in
-    rw (same _ _ a, same _ _ b, same _ _ c) refl
 
 pub within_limits : (top : Members) → Faultless top → (range base per : ℕ)
     → integer_at (codes "range") (table_at (codes "medium") top) ≡ Some (pos range)

@@ -8,6 +8,6 @@ abbrev pub rule_of : Key → Rule
 rule_of k = record { since = k.since; name = k.name.now; kind = k.kind; is_needed = k.is_needed }
 
 -- `Ok` if there is no fault, and otherwise the fault
-abbrev pub Checks : Result (Unit {0}) TableFault → Option TableFault → Type 0
-Checks (Ok u) fault = fault ≡ None
-Checks (Err e) fault = fault ≡ Some e
+abbrev pub AnswersFault : Result (Unit {0}) TableFault → Option TableFault → Type 0
+AnswersFault (Ok u) fault = fault ≡ None
+AnswersFault (Err e) fault = fault ≡ Some e

@@ -24,5 +24,5 @@ NeverBoth = (text : List ℕ) (model : NetModel) (e : ScenarioError) → TellsNe
 abbrev pub NetOrFault : Type 0
 NetOrFault = (text : List ℕ) → ((model : NetModel) × TellsNet text model) ⊎ ((e : ScenarioError) × TellsFault text e)
 
-abbrev pub OneFault : Type 0
-OneFault = (text : List ℕ) (e f : ScenarioError) → TellsFault text e → TellsFault text f → e ≡ f
+abbrev pub AtMostOneFault : Type 0
+AtMostOneFault = (text : List ℕ) (e f : ScenarioError) → TellsFault text e → TellsFault text f → e ≡ f

@@ -5,8 +5,8 @@ use Rattle.std.specs.List.{list_all}
 use Rattle.toml.specs.Data.{Data, Members, no_members, member, as_str}
 use Rattle.net_scenario.specs.declared.error.TableFault.{TableFault}
 use Rattle.net_scenario.specs.declared.error.TableFault.TheVariants.{UnknownKey, WrongKind, OutOfRange}
-use Rattle.net_scenario.specs.declared.rules.Kind.{Kind}
-use Rattle.net_scenario.specs.declared.rules.Kind.TheVariants.{Number}
+use Rattle.net_scenario.specs.declared.rules.KeyKind.{KeyKind}
+use Rattle.net_scenario.specs.declared.rules.KeyKind.TheVariants.{Number}
 use Rattle.mote_net.specs.Limits.{shortest_queue, longest_queue}
 use Rattle.net_scenario.specs.Limits.{most_programs, longest_name}
 use Rattle.net_scenario.specs.Rules.{has_kind, is_in_range, members_any}
@@ -37,7 +37,7 @@ names_fault ms =
     else None
 
 -- the kind of value that is the length of an event queue
-abbrev pub queue_length : Kind
+abbrev pub queue_length : KeyKind
 queue_length = Number (pos shortest_queue) (pos longest_queue)
 
 unfoldable pub lengths_fault : Members → Option TableFault

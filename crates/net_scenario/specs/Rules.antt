@@ -9,8 +9,8 @@ use Rattle.toml.specs.Data.{Data, Items, no_items, item, Members, no_members, me
 use Rattle.toml.specs.Data.{as_str, as_table, as_array}
 use Rattle.net_scenario.specs.declared.version.Version.{Version}
 use Rattle.net_scenario.specs.declared.version.Version.TheVariants.{First, Second}
-use Rattle.net_scenario.specs.declared.rules.Kind.{Kind}
-use Rattle.net_scenario.specs.declared.rules.Kind.TheVariants.{Number, Boolean, Text, Table, Tables}
+use Rattle.net_scenario.specs.declared.rules.KeyKind.{KeyKind}
+use Rattle.net_scenario.specs.declared.rules.KeyKind.TheVariants.{Number, Boolean, Text, Table, Tables}
 use Rattle.net_scenario.specs.declared.error.TableFault.{TableFault}
 use Rattle.net_scenario.specs.declared.error.TableFault.TheVariants.{MissingKey, UnknownKey, WrongKind, OutOfRange}
 use Rattle.mote_net.specs.Limits.{fewest_motes, most_motes, latest_end}
@@ -20,13 +20,13 @@ use Rattle.net_scenario.specs.Limits.{most_losses, farthest, widest_range, large
 pub record Rule : Type 0 where
   pub since : Version
   pub name : List ℕ
-  pub kind : Kind
+  pub kind : KeyKind
   pub is_needed : Bool
 
-abbrev pub needed : Version → List ℕ → Kind → Rule
+abbrev pub needed : Version → List ℕ → KeyKind → Rule
 needed since name kind = record { since = since; name = name; kind = kind; is_needed = true }
 
-abbrev pub optional : Version → List ℕ → Kind → Rule
+abbrev pub optional : Version → List ℕ → KeyKind → Rule
 optional since name kind = record { since = since; name = name; kind = kind; is_needed = false }
 
 -- version `now` has a key that version `since` introduced
@@ -40,7 +40,7 @@ abbrev pub known_in : Version → List Rule → List Rule
 known_in now rules = filter (λ r. has_come r.since now) rules
 
 -- a whole number from 0 to a limit
-abbrev pub number_up_to : ℕ → Kind
+abbrev pub number_up_to : ℕ → KeyKind
 number_up_to high = Number (pos 0) (pos high)
 
 abbrev pub top_rules : List Rule
@@ -85,7 +85,7 @@ abbrev pub items_len : Items → ℕ
 items_len no_items = 0
 items_len (item d ds) = items_len ds + 1
 
-abbrev pub has_kind : Kind → Data → Bool
+abbrev pub has_kind : KeyKind → Data → Bool
 has_kind (Number low high) d = is_some (as_integer d)
 has_kind Boolean d = is_some (as_bool d)
 has_kind Text d = is_some (as_str d)
@@ -93,7 +93,7 @@ has_kind Table d = is_some (as_table d)
 has_kind (Tables low high) d = option_map_or are_tables (as_array d) false
 
 -- a value is within its range; a value without a range is in range
-abbrev pub is_in_range : Kind → Data → Bool
+abbrev pub is_in_range : KeyKind → Data → Bool
 is_in_range (Number low high) d = option_map_or (λ z. le_z low z && le_z z high) (as_integer d) true
 is_in_range Boolean d = true
 is_in_range Text d = true

@@ -2,7 +2,7 @@
 ghost use Rattle.std.specs.Prelude.{◌≡◌, map};
 ghost use Rattle.toml.specs.View.{items_view, table_view};
 ghost use Rattle.net_scenario.specs.Rules.{keys_fault, known_in};
-ghost use Rattle.net_scenario.specs.Checks.{rule_of, Checks};
+ghost use Rattle.net_scenario.specs.Checks.{rule_of, AnswersFault};
 ghost use Rattle.net_scenario.specs.Document.{version_of, tables_in, first_some, program_fault, document_fault};
 
 use crate::error::TableFault;
@@ -26,7 +26,7 @@ pub fn version_of(top: &Table) -> Version
 /// Checks each table among the items, and reports the first fault.
 #[tactic(auto, using(crate::proofs::Each::after_item))]
 fn check_each(version: Version, items: &[Value], keys: &[Key]) -> Result<(), TableFault>
-    ensures checks { Checks result (first_some (keys_fault (known_in version (map rule_of keys.now)))
+    ensures checks { AnswersFault result (first_some (keys_fault (known_in version (map rule_of keys.now)))
         (tables_in (items_view items.now))) }
 {
     for item in items {
@@ -39,7 +39,7 @@ fn check_each(version: Version, items: &[Value], keys: &[Key]) -> Result<(), Tab
 
 /// Checks that a mote's program is among the programs.
 fn check_program(programs: &Table, mote: &Table) -> Result<(), TableFault>
-    ensures checks { Checks result (program_fault (table_view programs.now) (table_view mote.now)) }
+    ensures checks { AnswersFault result (program_fault (table_view programs.now) (table_view mote.now)) }
 {
     match value_at(programs, text_at(mote, "program")) {
         Some(_) => Ok(()),
@@ -50,7 +50,7 @@ fn check_program(programs: &Table, mote: &Table) -> Result<(), TableFault>
 /// Checks each mote, and reports the first mote whose program isn't among the programs.
 #[tactic(auto, using(crate::proofs::Each::after_item))]
 fn check_programs(programs: &Table, motes: &[Value]) -> Result<(), TableFault>
-    ensures checks { Checks result
+    ensures checks { AnswersFault result
         (first_some (program_fault (table_view programs.now)) (tables_in (items_view motes.now))) }
 {
     for item in motes {
@@ -67,7 +67,7 @@ fn check_programs(programs: &Table, motes: &[Value]) -> Result<(), TableFault>
 /// The first fault of the tables.
 #[tactic(auto, using(crate::proofs::Each::document_fault_of))]
 pub fn check_document(top: &Table) -> Result<(), TableFault>
-    ensures checks { Checks result (document_fault (table_view top.now)) }
+    ensures checks { AnswersFault result (document_fault (table_view top.now)) }
 {
     let version = version_of(top);
     check_keys(version, top, &top_keys())?;

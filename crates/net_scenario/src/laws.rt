@@ -1,6 +1,6 @@
 //! Laws about the meaning of a text. Each is stated as the contract of a function that only cites the laws about the
 //! texts of programs.
-ghost use Rattle.net_scenario.specs.Laws.{OneNet, OneFault, NeverBoth, NetOrFault};
+ghost use Rattle.net_scenario.specs.Laws.{OneNet, AtMostOneFault, NeverBoth, NetOrFault};
 
 use program_reader::laws::{
     at_most_one_fault as at_most_one_program_fault, at_most_one_tree, tree_or_fault,
@@ -17,7 +17,7 @@ pub fn at_most_one_net()
 
 /// A text has at most one first fault.
 pub fn at_most_one_fault()
-    ensures one_fault { OneFault }
+    ensures one_fault { AtMostOneFault }
 {
     at_most_one_tree();
     at_most_one_program_fault();

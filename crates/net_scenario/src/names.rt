@@ -4,7 +4,7 @@ ghost use Rattle.std.specs.List.{list_any, list_all};
 ghost use Rattle.std.specs.Map.{keys_of, values_of};
 ghost use Rattle.toml.specs.Data.{as_str};
 ghost use Rattle.toml.specs.View.{view, table_view};
-ghost use Rattle.net_scenario.specs.Checks.{Checks};
+ghost use Rattle.net_scenario.specs.Checks.{AnswersFault};
 ghost use Rattle.net_scenario.specs.Names.{is_name_byte, is_program_name, names_fault};
 
 use crate::error::TableFault;
@@ -50,7 +50,7 @@ fn any_no_text(table: &Table) -> bool
 /// The first fault of the names.
 #[tactic(auto, using(crate::proofs::Tables::names_fault_of))]
 pub fn check_names(table: &Table) -> Result<(), TableFault>
-    ensures checks { Checks result (names_fault (table_view table.now)) }
+    ensures checks { AnswersFault result (names_fault (table_view table.now)) }
 {
     if any_misnamed(table) {
         return Err(TableFault::UnknownKey);

@@ -8,20 +8,20 @@ ghost use Rattle.net_scenario.specs.Document.{members_of, queue_fault};
 ghost use Rattle.mote_net.specs.Limits.{shortest_queue, longest_queue};
 ghost use Rattle.net_scenario.specs.Names.{queue_length, lengths_fault};
 ghost use Rattle.net_scenario.specs.Net.{queue_of};
-ghost use Rattle.net_scenario.specs.Checks.{Checks};
+ghost use Rattle.net_scenario.specs.Checks.{AnswersFault};
 ghost use Rattle.net_scenario.specs.Rules.{has_kind, is_in_range};
 
 use crate::error::TableFault;
 use crate::limits::{LONGEST_QUEUE, SHORTEST_QUEUE, USUAL_QUEUE};
-use crate::rules::{Kind, fits_kind, fits_range, value_at};
+use crate::rules::{KeyKind, fits_kind, fits_range, value_at};
 use crate::values::natural_at;
 use toml::Table;
 
 /// The kind of value that is the length of a queue, with its limits.
-fn queue_length() -> Kind
+fn queue_length() -> KeyKind
     ensures value { result ≡ queue_length }
 {
-    Kind::Number(SHORTEST_QUEUE, LONGEST_QUEUE)
+    KeyKind::Number(SHORTEST_QUEUE, LONGEST_QUEUE)
 }
 
 fn any_other_kind(table: &Table) -> bool
@@ -46,7 +46,7 @@ fn any_out_of_range(table: &Table) -> bool
 /// The first fault of the lengths.
 #[tactic(auto, using(crate::proofs::Tables::lengths_fault_of, crate::proofs::Tables::lengths_fault_of_none))]
 pub fn check_lengths(queue: Option<&Table>) -> Result<(), TableFault>
-    ensures checks { Checks result (lengths_fault (members_of queue.entry)) }
+    ensures checks { AnswersFault result (lengths_fault (members_of queue.entry)) }
 {
     if let Some(table) = queue {
         if any_other_kind(table) {
@@ -74,7 +74,7 @@ fn any_without_program(programs: &Table, table: &Table) -> bool
 /// The fault of a queue for a program that the scenario doesn't have.
 #[tactic(auto, using(crate::proofs::Tables::queue_fault_of))]
 pub fn check_queue_names(programs: &Table, queue: Option<&Table>) -> Result<(), TableFault>
-    ensures checks { Checks result (queue_fault (table_view programs.now) (members_of queue.entry)) }
+    ensures checks { AnswersFault result (queue_fault (table_view programs.now) (members_of queue.entry)) }
 {
     if let Some(table) = queue
         && any_without_program(programs, table)

@@ -8,7 +8,7 @@ ghost use Rattle.toml.specs.View.{view, table_view};
 ghost use Rattle.net_scenario.specs.Checks.{rule_of};
 ghost use Rattle.net_scenario.specs.Rules.{has_come, known_in, has_kind, is_in_range, misses};
 ghost use Rattle.net_scenario.specs.Rules.{holds_other_kind, holds_out_of_range, keys_fault, top_rules};
-ghost use Rattle.net_scenario.specs.Checks.{Checks};
+ghost use Rattle.net_scenario.specs.Checks.{AnswersFault};
 ghost use Rattle.net_scenario.specs.Rules.{medium_rules, loss_rules, mote_rules};
 
 use crate::error::TableFault;
@@ -21,7 +21,7 @@ use toml::{Table, Value};
 
 /// The kind of values that a key may have.
 #[derive(Clone, Copy)]
-pub enum Kind {
+pub enum KeyKind {
     /// A whole number from the first number to the second.
     Number(i64, i64),
     Boolean,
@@ -36,11 +36,11 @@ pub enum Kind {
 pub struct Key {
     pub since: Version,
     pub name: &'static str,
-    pub kind: Kind,
+    pub kind: KeyKind,
     pub is_needed: bool,
 }
 
-const fn needed(since: Version, name: &'static str, kind: Kind) -> Key
+const fn needed(since: Version, name: &'static str, kind: KeyKind) -> Key
     ensures rule { rule_of result ≡ record { since = since; name = name.now; kind = kind; is_needed = true } }
 {
     Key {
@@ -51,7 +51,7 @@ const fn needed(since: Version, name: &'static str, kind: Kind) -> Key
     }
 }
 
-const fn optional(since: Version, name: &'static str, kind: Kind) -> Key
+const fn optional(since: Version, name: &'static str, kind: KeyKind) -> Key
     ensures rule { rule_of result ≡ record { since = since; name = name.now; kind = kind; is_needed = false } }
 {
     Key {
@@ -67,13 +67,13 @@ pub fn top_keys() -> [Key; 7]
     ensures rules { map rule_of result ≡ top_rules }
 {
     [
-        needed(First, "version", Kind::Number(1, 2)),
-        needed(First, "end", Kind::Number(0, LATEST_END)),
-        needed(First, "medium", Kind::Table),
-        needed(First, "programs", Kind::Table),
-        needed(First, "mote", Kind::Tables(1, MOST_MOTES)),
-        optional(First, "loss", Kind::Tables(0, MOST_LOSSES)),
-        optional(Second, "queue", Kind::Table),
+        needed(First, "version", KeyKind::Number(1, 2)),
+        needed(First, "end", KeyKind::Number(0, LATEST_END)),
+        needed(First, "medium", KeyKind::Table),
+        needed(First, "programs", KeyKind::Table),
+        needed(First, "mote", KeyKind::Tables(1, MOST_MOTES)),
+        optional(First, "loss", KeyKind::Tables(0, MOST_LOSSES)),
+        optional(Second, "queue", KeyKind::Table),
     ]
 }
 
@@ -82,10 +82,10 @@ pub fn medium_keys() -> [Key; 4]
     ensures rules { map rule_of result ≡ medium_rules }
 {
     [
-        needed(First, "range", Kind::Number(0, WIDEST_RANGE)),
-        needed(First, "base", Kind::Number(0, LARGEST_BASE_OR_PER)),
-        needed(First, "per", Kind::Number(0, LARGEST_BASE_OR_PER)),
-        needed(Second, "collide", Kind::Boolean),
+        needed(First, "range", KeyKind::Number(0, WIDEST_RANGE)),
+        needed(First, "base", KeyKind::Number(0, LARGEST_BASE_OR_PER)),
+        needed(First, "per", KeyKind::Number(0, LARGEST_BASE_OR_PER)),
+        needed(Second, "collide", KeyKind::Boolean),
     ]
 }
 
@@ -94,9 +94,9 @@ pub fn loss_keys() -> [Key; 3]
     ensures rules { map rule_of result ≡ loss_rules }
 {
     [
-        needed(First, "from", Kind::Number(0, LARGEST_IN_LOSS)),
-        needed(First, "to", Kind::Number(0, LARGEST_IN_LOSS)),
-        needed(First, "every", Kind::Number(0, LARGEST_IN_LOSS)),
+        needed(First, "from", KeyKind::Number(0, LARGEST_IN_LOSS)),
+        needed(First, "to", KeyKind::Number(0, LARGEST_IN_LOSS)),
+        needed(First, "every", KeyKind::Number(0, LARGEST_IN_LOSS)),
     ]
 }
 
@@ -105,9 +105,9 @@ pub fn mote_keys() -> [Key; 3]
     ensures rules { map rule_of result ≡ mote_rules }
 {
     [
-        needed(First, "x", Kind::Number(-FARTHEST, FARTHEST)),
-        needed(First, "y", Kind::Number(-FARTHEST, FARTHEST)),
-        needed(First, "program", Kind::Text),
+        needed(First, "x", KeyKind::Number(-FARTHEST, FARTHEST)),
+        needed(First, "y", KeyKind::Number(-FARTHEST, FARTHEST)),
+        needed(First, "program", KeyKind::Text),
     ]
 }
 
@@ -126,15 +126,15 @@ fn are_tables(items: &[Value]) -> bool
 
 /// Returns `true` if a value is of this kind, whether or not it is within its range.
 #[tactic(auto, using(crate::proofs::Tables::are_tables_view))]
-pub fn fits_kind(value: &Value, kind: Kind) -> bool
+pub fn fits_kind(value: &Value, kind: KeyKind) -> bool
     ensures value { result ≡ has_kind kind (view value.now) }
 {
     match kind {
-        Kind::Number(_, _) => value.is_integer(),
-        Kind::Boolean => value.is_bool(),
-        Kind::Text => value.is_str(),
-        Kind::Table => value.is_table(),
-        Kind::Tables(_, _) => match value.as_array() {
+        KeyKind::Number(_, _) => value.is_integer(),
+        KeyKind::Boolean => value.is_bool(),
+        KeyKind::Text => value.is_str(),
+        KeyKind::Table => value.is_table(),
+        KeyKind::Tables(_, _) => match value.as_array() {
             Some(items) => are_tables(items),
             None => false,
         },
@@ -143,19 +143,19 @@ pub fn fits_kind(value: &Value, kind: Kind) -> bool
 
 /// Returns `true` if a value of this kind is within its range.
 #[tactic(auto, using(crate::proofs::Tables::items_len_view))]
-pub fn fits_range(value: &Value, kind: Kind) -> bool
+pub fn fits_range(value: &Value, kind: KeyKind) -> bool
     ensures value { result ≡ is_in_range kind (view value.now) }
 {
     match kind {
-        Kind::Number(low, high) => match value.as_integer() {
+        KeyKind::Number(low, high) => match value.as_integer() {
             Some(number) => low <= number && number <= high,
             None => true,
         },
-        Kind::Tables(low, high) => match value.as_array() {
+        KeyKind::Tables(low, high) => match value.as_array() {
             Some(items) => low <= items.len() && items.len() <= high,
             None => true,
         },
-        Kind::Boolean | Kind::Text | Kind::Table => true,
+        KeyKind::Boolean | KeyKind::Text | KeyKind::Table => true,
     }
 }
 
@@ -229,7 +229,7 @@ fn any_out_of_range(version: Version, table: &Table, keys: &[Key]) -> bool
 /// The first fault of the table against these keys.
 #[tactic(auto, using(crate::proofs::Tables::keys_fault_of))]
 pub fn check_keys(version: Version, table: &Table, keys: &[Key]) -> Result<(), TableFault>
-    ensures checks { Checks result (keys_fault (known_in version (map rule_of keys.now)) (table_view table.now)) }
+    ensures checks { AnswersFault result (keys_fault (known_in version (map rule_of keys.now)) (table_view table.now)) }
 {
     if any_missing(version, table, keys) {
         return Err(TableFault::MissingKey);

@@ -4,7 +4,7 @@ use denote.Param.SendFields.{declared_sync}
 use denote.Ref.{NamedLft}
 use Rattle.claims.proofs.claim.Claim.TheSendSync as claim
 use Rattle.mote_net.proofs.NetCrossing.{net_sync}
-use Rattle.fault_keys.proofs.candidates.Candidates.TheSendSync as candidates
+use Rattle.fault_keys.proofs.keys.Candidates.TheSendSync as candidates
 use Rattle.net_survey.specs.contracts.net_trial.NetTrial as NetTrial
 
 pub trial_sync : (κ : NamedLft) → IsSync (NetTrial.the_row κ)

@@ -14,7 +14,7 @@ use Rattle.survey.specs.declared.search.Limits.{Limits}
 use Rattle.radio_faults.specs.declared.fault.Fault.{Fault}
 use Rattle.claims.specs.declared.claim.Claim.{Claim}
 use Rattle.fault_keys.specs.Laws.{runs_of}
-use Rattle.fault_keys.specs.declared.candidates.Candidates.{Candidates}
+use Rattle.fault_keys.specs.declared.keys.Candidates.{Candidates}
 use Rattle.net_survey.specs.Chosen.{faults_at}
 use Rattle.net_survey.specs.Judged.{claim_holds}
 use Rattle.serial_run.proofs.OneReport.{report_with, report_with_is}

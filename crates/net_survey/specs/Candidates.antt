@@ -1,9 +1,10 @@
 -- The faults that a net may have.
-use Rattle.std.specs.Prelude.{ℕ, if◌then◌else◌, List, [], ◌++◌, map}
+use Rattle.std.specs.Prelude.{ℕ, Some, None, if◌then◌else◌, List, [], ◌++◌, map}
 use Rattle.std.specs.List.{filter, flat_map}
 use Rattle.radio_medium.specs.Medium.{Radio, hears, motes}
 use Rattle.radio_faults.specs.declared.fault.Fault.{Fault}
-use Rattle.radio_faults.specs.declared.fault.Fault.TheVariants.{Link, OffFrom, OffUntil, Silent}
+use Rattle.radio_faults.specs.declared.fault.Fault.TheVariants as fault
+use Rattle.radio_faults.specs.declared.fault.Fault.TheVariants.{Link, Silent}
 use Rattle.net_survey.specs.declared.candidates.Kinds.{Kinds}
 use Rattle.net_survey.specs.declared.candidates.Off.{Off}
 use Rattle.net_survey.specs.declared.candidates.Off.TheVariants.{From, Until}
@@ -25,8 +26,8 @@ fixed_faults kinds radio =
 
 -- the fault of a mote that is off then
 abbrev pub off_at : Off → (mote : ℕ) → Fault
-off_at (From from) mote = OffFrom mote from
-off_at (Until until) mote = OffUntil mote until
+off_at (From from) mote = fault.Off mote from None
+off_at (Until until) mote = fault.Off mote 0 (Some until)
 
 abbrev pub off_motes : Radio → Off → List Fault
 off_motes radio time = map (off_at time) (motes radio)

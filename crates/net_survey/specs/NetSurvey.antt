@@ -8,7 +8,7 @@ use Rattle.survey.specs.Survey.{IsSurvey}
 use Rattle.survey.specs.declared.broken.Survey.{Survey}
 use Rattle.survey.specs.declared.search.Limits.{Limits}
 use Rattle.fault_keys.specs.Laws.{runs_of}
-use Rattle.fault_keys.specs.declared.candidates.Candidates.{Candidates}
+use Rattle.fault_keys.specs.declared.keys.Candidates.{Candidates}
 use Rattle.net_survey.specs.Chosen.{faults_at}
 use Rattle.net_survey.specs.Judged.{claim_holds}
 

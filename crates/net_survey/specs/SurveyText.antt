@@ -3,9 +3,9 @@ use Rattle.std.specs.Prelude.{ℕ, ◌+◌, ◌-◌, ◌==◌, nat_lt, Bool, if�
 use Rattle.std.specs.List.{flat_map, list_any}
 use Rattle.claims.specs.declared.claim.Claim.{Claim}
 use Rattle.claim_text.specs.ClaimText.{text_of}
-use Rattle.fault_text.specs.FaultText.{fault_text}
+use Rattle.radio_faults.specs.FaultText.{fault_text}
 use Rattle.radio_faults.specs.declared.fault.Fault.{Fault}
-use Rattle.fault_keys.specs.declared.candidates.Candidates.{Candidates}
+use Rattle.fault_keys.specs.declared.keys.Candidates.{Candidates}
 use Rattle.net_survey.specs.Chosen.{faults_at}
 use Rattle.survey.specs.declared.broken.Broken.{Broken}
 use Rattle.survey.specs.declared.broken.Survey.{Survey}

@@ -35,8 +35,16 @@ impl Off {
         ensures value { result ≡ off_at self mote }
     {
         match self {
-            Off::From(from) => Fault::OffFrom { mote, from },
-            Off::Until(until) => Fault::OffUntil { mote, until },
+            Off::From(from) => Fault::Off {
+                mote,
+                from,
+                until: None,
+            },
+            Off::Until(until) => Fault::Off {
+                mote,
+                from: 0,
+                until: Some(until),
+            },
         }
     }
 }

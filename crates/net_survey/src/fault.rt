@@ -1,13 +1,12 @@
 //! Writes sets of faults.
 ghost use Rattle.std.specs.Prelude.{◌≡◌, ◌++◌, string_bytes, OnOk};
 ghost use Rattle.std.specs.List.{flat_map};
-ghost use Rattle.fault_text.specs.FaultText.{fault_text};
+ghost use Rattle.radio_faults.specs.FaultText.{fault_text};
 ghost use Rattle.net_survey.specs.Chosen.{faults_at};
 ghost use Rattle.net_survey.specs.SurveyText.{next_fault, set_text};
 
 use fault_keys::Candidates;
-use fault_text::FaultText;
-use radio_faults::Fault;
+use radio_faults::{Fault, FaultText};
 use std::alloc::{AllocError, Global};
 
 fn put_fault(alloc: Global, text: &mut String, fault: Fault) -> Result<(), AllocError>

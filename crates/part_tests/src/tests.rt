@@ -5,11 +5,16 @@
 
 mod blocks;
 mod canonical;
+mod claim_texts;
+mod claims_by_hand;
+mod fates;
+mod fault_text;
 mod inboxes;
 mod kernels;
 mod medium;
 mod motes;
 mod protothreads;
+mod random_claims;
 mod refused;
 mod reports;
 mod small;

@@ -66,6 +66,10 @@ with_packet m a = record m { state = record m.state { ring = m.state.ring ++ a �
 unfoldable pub with_poll : KernelModel → Proc → KernelModel
 with_poll m p = record m { state = process_poll m.state p }
 
+-- the mote has sent so many packets
+abbrev pub with_sent : KernelModel → (sent : ℕ) → KernelModel
+with_sent m sent = record m { state = record m.state { sent = sent } }
+
 -- the mote has work left: an event is queued, or a poll is requested
 abbrev pub is_pending : KernelModel → Bool
 is_pending m = nat_lt 0 (length m.state.queue.events) || m.state.poll_requested

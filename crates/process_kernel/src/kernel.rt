@@ -4,7 +4,7 @@ ghost use Rattle.std.specs.Prelude.{◌≡◌, ◌≤◌, ◌^◌, OnOk, IfOk, I
 ghost use Rattle.program_tree.specs.Code.{Tree};
 ghost use Rattle.program_tree.specs.Program.{tree_of};
 ghost use Rattle.mote_timers.specs.TimerLists.{next_expiration_of};
-ghost use Rattle.process_kernel.specs.KernelModel.{unbooted, with_poll, with_packet, has_room, is_pending};
+ghost use Rattle.process_kernel.specs.KernelModel.{unbooted, with_poll, with_packet, with_sent, has_room, is_pending};
 
 use crate::machine::{Machine, Stop};
 use program_tree::{Proc, Program};
@@ -256,6 +256,22 @@ impl Kernel {
         ensures model { (t : Tree) → IfSome (kernel_in t self.now) (λ m. result ≡ m.state.mote) }
     {
         self.machine.view.mote
+    }
+
+    /// The number of packets that the mote has sent, which is the number of its next packet.
+    #[tactic(auto, unfolding(crate::specs::Public::kernel_in))]
+    pub fn sent(&self) -> u64
+        ensures model { (t : Tree) → IfSome (kernel_in t self.now) (λ m. result ≡ m.state.sent) }
+    {
+        self.machine.sent
+    }
+
+    /// Sets the number of the mote's next packet.
+    #[tactic(auto, unfolding(crate::specs::Public::kernel_in))]
+    pub fn set_sent(&mut self, sent: u64)
+        ensures model { (t : Tree) → kernel_in t self.new ≡ option_map (λ m. with_sent m sent) (kernel_in t self.old) }
+    {
+        self.machine.sent = sent;
     }
 
     /// Returns `true` if the mote was booted.

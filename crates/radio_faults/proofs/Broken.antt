@@ -9,7 +9,7 @@ use Rattle.radio_packet.specs.declared.fate.Fate.{Fate}
 use Rattle.radio_medium.specs.declared.losses.Loss.{Loss}
 use Rattle.radio_medium.specs.Medium.{Radio, is_for_pair, every_of, is_lost, loses, hears, delay, receivers, motes, fate, fates}
 use Rattle.radio_faults.specs.declared.fault.Fault.{Fault}
-use Rattle.radio_faults.specs.declared.fault.Fault.TheVariants.{Link, Silent, Lost, LostToAll, Late, OffFrom, OffUntil}
+use Rattle.radio_faults.specs.declared.fault.Fault.TheVariants.{Link, Silent, Lost, LostToAll, Late, Off}
 use Rattle.std.specs.Option.{option_and_then}
 use Rattle.radio_faults.specs.LossTables.{IsOfLinks, breaks, is_broken, links, broken_links, losing_all, radio_with}
 use Rattle.radio_faults.specs.Faults.{fate_after, fates_with}
@@ -147,8 +147,7 @@ after_link (Silent mote) is sent broken fate = after_test (λ r. mote == sent.se
 after_link (Lost sender number to) is sent broken fate = absurd is
 after_link (LostToAll sender number) is sent broken fate = absurd is
 after_link (Late sender number to by) is sent broken fate = absurd is
-after_link (OffFrom mote from) is sent broken fate = absurd is
-after_link (OffUntil mote until) is sent broken fate = absurd is
+after_link (Off mote from until) is sent broken fate = absurd is
 
 -- the fates after all of them
 untouched : (sent : Sent) (fates : List Fate) → fates ≡ map (lost_by [] sent) fates

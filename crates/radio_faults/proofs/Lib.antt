@@ -2,3 +2,12 @@ pub mod AnyOf
 pub mod Broken
 pub mod Copies
 pub mod Valid
+pub mod Numbers
+pub mod Again
+pub mod Fits
+pub mod LineLaws
+pub mod OneList
+pub mod Forward
+pub mod Order
+pub mod Prefix
+pub mod Runs

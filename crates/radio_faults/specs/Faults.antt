@@ -7,7 +7,7 @@ use Rattle.radio_packet.specs.declared.copy.RadioCopy.{RadioCopy}
 use Rattle.radio_packet.specs.declared.fate.Fate.{Fate}
 use Rattle.radio_packet.specs.declared.sent.Sent.{Sent}
 use Rattle.radio_faults.specs.declared.fault.Fault.{Fault}
-use Rattle.radio_faults.specs.declared.fault.Fault.TheVariants.{Link, Silent, Lost, LostToAll, Late, OffFrom, OffUntil}
+use Rattle.radio_faults.specs.declared.fault.Fault.TheVariants.{Link, Silent, Lost, LostToAll, Late, Off}
 
 -- the fault names the copy of packet n of mote s for mote r
 abbrev pub names : Fault → (s n r : ℕ) → Bool
@@ -16,8 +16,7 @@ names (Silent mote) s n r = mote == s
 names (Lost sender number to) s n r = (sender == s) && (number == n) && (to == r)
 names (LostToAll sender number) s n r = (sender == s) && (number == n)
 names (Late sender number to by) s n r = (sender == s) && (number == n) && (to == r)
-names (OffFrom mote from) s n r = false
-names (OffUntil mote until) s n r = false
+names (Off mote from until) s n r = false
 
 -- when a copy arrives that the fault names, if it arrives at this moment without it: a late copy so much later, and each
 -- other copy never

@@ -2,3 +2,9 @@ pub mod Faults
 pub mod Laws
 pub mod LossTables
 pub mod Off
+pub mod FaultLines
+pub mod FaultText
+pub mod TextLaws
+pub mod Cases
+pub mod NetLaws
+pub mod WithFaults

@@ -29,15 +29,12 @@ pub enum Fault {
         to: u16,
         by: u32,
     },
-    /// The mote is off from a moment on. It takes no turns then, and what arrives vanishes.
-    OffFrom {
+    /// The mote is off from a moment up to another one, or from then on. While it is off, it takes no turns, and what
+    /// arrives vanishes. At the other moment, which is the same or later, it boots again.
+    Off {
         mote: u16,
         from: u64,
-    },
-    /// The mote is off before a moment: it starts then, and what arrives before vanishes.
-    OffUntil {
-        mote: u16,
-        until: u64,
+        until: Option<u64>,
     },
 }
 
@@ -64,7 +61,7 @@ impl Fault {
                 to: r,
                 by: _,
             } => s == sender && n == number && r == to,
-            Fault::OffFrom { .. } | Fault::OffUntil { .. } => false,
+            Fault::Off { .. } => false,
         }
     }
 }

@@ -19,16 +19,16 @@ use Rattle.window_laws.proofs.Order.{sorted_permutes}
 use Rattle.window_laws.proofs.Puts.{put_each}
 use Rattle.net_agenda.specs.NetSystem.{system_of}
 use Rattle.mote_net.specs.Report.{Packet, ReportModel}
-use Rattle.serial_run.specs.FaultRun.{net_with, packet_with}
+use Rattle.serial_run.specs.FaultRun.{net_with, node_reboot, packet_with}
 use Rattle.serial_run.specs.NetRun.{report_at}
 use Rattle.serial_run.specs.Laws.{NetsRunForward, ReportIsThere, WindowsCommuteInNets}
 use Rattle.serial_run.specs.Stamps.{sent_by}
 use Rattle.net_agenda.proofs.Systems.{system_is}
 use Rattle.serial_run.proofs.Stamps.{run_counts_up}
-use Rattle.fault_laws.proofs.Forward.{faults_run_forward}
+use Rattle.radio_faults.proofs.Forward.{faults_run_forward}
 
 pub nets_run_forward : NetsRunForward
-nets_run_forward faults n fault placed = faults_run_forward (system_of n) faults (system_is n fault placed)
+nets_run_forward faults n fault placed = faults_run_forward node_reboot (system_of n) faults (system_is n fault placed)
 
 pub report_is_there : ReportIsThere
 report_is_there faults n fault placed =

@@ -7,25 +7,23 @@ use Rattle.radio_packet.specs.declared.fate.Fate.{Fate}
 use Rattle.radio_packet.specs.declared.sent.Sent.{Sent}
 use Rattle.radio_medium.specs.Medium.{copies, copy_of, fates}
 use Rattle.radio_faults.specs.declared.fault.Fault.{Fault}
-use Rattle.radio_faults.specs.declared.fault.Fault.TheVariants.{Link, Silent, Lost, LostToAll, Late, OffFrom, OffUntil}
-use Rattle.radio_faults.specs.Off.{is_off, keeps_off}
+use Rattle.radio_faults.specs.declared.fault.Fault.TheVariants.{Link, Silent, Lost, LostToAll, Late, Off}
 use Rattle.radio_faults.specs.LossTables.{IsOfLinks}
 use Rattle.radio_packet.specs.declared.copy.RadioCopy.{RadioCopy}
 use Rattle.mote_node.specs.Turn.{Node}
-use Rattle.fault_laws.specs.Laws.{AreOffTheSame, LeavesOn}
-use Rattle.fault_laws.specs.WithFaults.{turn_with}
+use Rattle.radio_faults.specs.NetLaws.{AreOffTheSame, LeavesOn}
 use Rattle.radio_faults.specs.Faults.{names, named_arrival, copies_with, fate_after, fates_with}
 use Rattle.radio_faults.specs.LossTables.{radio_with}
 use Rattle.radio_faults.proofs.Broken.{loss_tables_agree as of_medium}
 use Rattle.radio_faults.proofs.Copies.{fates_tell_copies}
 use Rattle.window_laws.specs.Agenda.{packets, up_to}
 use Rattle.window_laws.proofs.Lists.{every_weaker}
-use Rattle.fault_laws.proofs.Order.{order_means_nothing as of_faults}
-use Rattle.fault_laws.proofs.Runs.{copies_decide, run_with_same, still_on}
+use Rattle.radio_faults.proofs.Order.{order_means_nothing as of_faults}
+use Rattle.radio_faults.proofs.Runs.{TurnsAre, copies_decide, run_with_same, still_on, turns_with_same}
 use Rattle.mote_net.specs.Net.{NetModel}
 use Rattle.mote_net.specs.Report.{Packet, ReportModel}
 use Rattle.net_agenda.specs.NetSystem.{system_of}
-use Rattle.serial_run.specs.FaultRun.{net_with, packet_with, IsReportWith}
+use Rattle.serial_run.specs.FaultRun.{net_with, node_reboot, packet_with, IsReportWith}
 use Rattle.serial_run.specs.NetRun.{packet_with_fates}
 use Rattle.serial_run.specs.FaultLaws.{is_of_motes, is_some, names_copy_of, names_copy_in, net_losing, UnsentIsNothing, OrderMeansNothing, LossTablesAgree, SomeAreUnsent}
 
@@ -51,7 +49,7 @@ module _ (model : NetModel) where
   unfolding system_of
   same_report some others off r report same = record {
     last = report.last;
-    run = copies_decide (system_of model) some others model.end report.last report.run off (every_weaker _ _ (same_copies some others) report.last.log same);
+    run = copies_decide node_reboot (system_of model) some others model.end report.last report.run off (every_weaker _ _ (same_copies some others) report.last.log same);
     matches = report.matches
         ∙ ap (λ (log : List Packet). let x : ReportModel = record { traces = map report.last.traces (up_to (length model.motes)); log = log; left = length (packets report.last.agenda) } in x)
         (same_map _ _ report.last.log (every_weaker _ _ (λ sent same. ap (λ (fs : List Fate). let x : Packet = record { sent = sent; fates = fs } in x) same) report.last.log same));
@@ -81,13 +79,12 @@ all_untouched faults fault model (sent ∷ log) none =
 
 -- a fault of copies leaves all motes on
 leaves_on : (fault : Fault) (end : ℕ) → is_of_motes fault ≡ false → LeavesOn fault end
-leaves_on (Link from to) end e mote moment le = refl
-leaves_on (Silent k) end e mote moment le = refl
-leaves_on (Lost sender number to) end e mote moment le = refl
-leaves_on (LostToAll sender number) end e mote moment le = refl
-leaves_on (Late sender number to by) end e mote moment le = refl
-leaves_on (OffFrom k from) end e mote moment le = absurd (cc)
-leaves_on (OffUntil k until) end e mote moment le = absurd (cc)
+leaves_on (Link from to) end e = record { on = λ mote moment le. refl; no_boot = λ mote. refl }
+leaves_on (Silent k) end e = record { on = λ mote moment le. refl; no_boot = λ mote. refl }
+leaves_on (Lost sender number to) end e = record { on = λ mote moment le. refl; no_boot = λ mote. refl }
+leaves_on (LostToAll sender number) end e = record { on = λ mote moment le. refl; no_boot = λ mote. refl }
+leaves_on (Late sender number to by) end e = record { on = λ mote moment le. refl; no_boot = λ mote. refl }
+leaves_on (Off k from until) end e = absurd (cc)
 
 pub unsent_is_nothing : UnsentIsNothing
 unsent_is_nothing faults fault model r report none =
@@ -107,23 +104,28 @@ module _ (faults : List Fault) (model : NetModel) where
   same_packet : (sent : Sent) → AreAsLost sent → packet_with faults model.radio sent ≡ packet_with_fates (radio_with faults model.radio) sent
   same_packet sent same = ap (λ (fs : List Fate). let x : Packet = record { sent = sent; fates = fs } in x) same
 
--- faults of links leave all motes on
-none_off : (faults : List Fault) → AllByRecursion IsOfLinks faults → (mote moment : ℕ) → is_off faults mote moment ≡ false
-none_off [] are mote moment = refl
-none_off (fault ∷ faults) are mote moment = one fault are.0 (none_off faults are.1 mote moment)
-  where
-    one : (fault : Fault) → IsOfLinks fault → is_off faults mote moment ≡ false → (keeps_off fault mote moment || is_off faults mote moment) ≡ false
-    one (Link from to) is rest = rest
-    one (Silent k) is rest = rest
-    one (Lost sender number to) is rest = absurd is
-    one (LostToAll sender number) is rest = absurd is
-    one (Late sender number to by) is rest = absurd is
-    one (OffFrom k from) is rest = absurd is
-    one (OffUntil k until) is rest = absurd is
+-- a fault of links isn't one of motes
+of_links : (fault : Fault) → IsOfLinks fault → is_of_motes fault ≡ false
+of_links (Link from to) is = refl
+of_links (Silent k) is = refl
+of_links (Lost sender number to) is = absurd is
+of_links (LostToAll sender number) is = absurd is
+of_links (Late sender number to by) is = absurd is
+of_links (Off k from until) is = absurd is
 
-same_turns : (faults : List Fault) → AllByRecursion IsOfLinks faults → (model : NetModel) (mote : ℕ) (state : Node) (moment : ℕ) (given : List RadioCopy)
-    → turn_with faults (system_of model) mote state moment given ≡ (system_of model).turn mote state moment given
-same_turns faults are model mote state moment given = rw (none_off faults are mote moment) refl
+-- with faults of links motes are off as without faults
+none_off : (faults : List Fault) → AllByRecursion IsOfLinks faults → (end : ℕ) → AreOffTheSame [] faults end
+none_off [] are end = record { off = λ mote moment le. refl; boot = λ mote moment le. refl; wakes = λ mote moment le. refl }
+none_off (fault ∷ faults) are end =
+    let rest = none_off faults are.1 end in
+    let more = still_on fault faults end (leaves_on fault end (of_links fault are.0)) in record {
+      off = λ mote moment le. rest.off mote moment le ∙ more.off mote moment le;
+      boot = λ mote moment le. rest.boot mote moment le ∙ more.boot mote moment le;
+      wakes = λ mote moment le. rest.wakes mote moment le ∙ more.wakes mote moment le;
+    }
+
+same_turns : (faults : List Fault) → AllByRecursion IsOfLinks faults → (model : NetModel) → TurnsAre (system_of model) model.end (net_with faults model)
+same_turns faults are model = turns_with_same node_reboot (system_of model) [] faults model.end (none_off faults are model.end)
 
 pub loss_tables_agree : LossTablesAgree
 unfolding system_of
@@ -131,7 +133,7 @@ loss_tables_agree = record {
   there = λ faults model r are report.
       let same = always (AreAsLost faults model) (λ sent. of_medium model.radio faults are sent) report.last.log in record {
         last = report.last;
-        run = run_with_same (net_with faults model) model.end (system_of (net_losing faults model)) (λ mote state moment given le. same_turns faults are model mote state moment given) report.run
+        run = run_with_same (net_with faults model) model.end (system_of (net_losing faults model)) (λ mote state moment given le. sym (same_turns faults are model mote state moment given le)) report.run
             (every_weaker _ _ (as_lost faults model) report.last.log same);
         matches = report.matches
             ∙ ap (λ (log : List Packet). let x : ReportModel = record { traces = map report.last.traces (up_to (length model.motes)); log = log; left = length (packets report.last.agenda) } in x)
@@ -140,7 +142,7 @@ loss_tables_agree = record {
   back = λ faults model r are report.
       let same = always (AreAsLost faults model) (λ sent. of_medium model.radio faults are sent) report.last.log in record {
         last = report.last;
-        run = run_with_same (system_of (net_losing faults model)) model.end (net_with faults model) (λ mote state moment given le. sym (same_turns faults are model mote state moment given)) report.run
+        run = run_with_same (system_of (net_losing faults model)) model.end (net_with faults model) (λ mote state moment given le. same_turns faults are model mote state moment given le) report.run
             (every_weaker _ _ (λ sent same. sym (as_lost faults model sent same)) report.last.log same);
         matches = report.matches
             ∙ ap (λ (log : List Packet). let x : ReportModel = record { traces = map report.last.traces (up_to (length model.motes)); log = log; left = length (packets report.last.agenda) } in x)

@@ -1,5 +1,6 @@
 pub mod ByWindows
 pub mod Counted
+pub mod EachTurn
 pub mod FaultLaws
 pub mod Given
 pub mod Handed

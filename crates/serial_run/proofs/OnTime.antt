@@ -24,7 +24,7 @@ use Rattle.serial_run.specs.OnTime.{CanTurn, IsNotAfter, IsOnTime}
 use Rattle.serial_run.specs.IsInState.{IsEngineAt}
 use Rattle.radio_faults.specs.declared.fault.Fault.{Fault}
 use Rattle.serial_run.specs.FaultRun.{net_with}
-use Rattle.fault_laws.proofs.Forward.{turn_either}
+use Rattle.serial_run.proofs.EachTurn.{each_turn}
 
 -- comparisons of plain numbers
 then_later : (t m u k : ℕ) → k ≡ m → (ltb t u || (eqb u t && not (ltb k (suc m)))) ≡ true → t < u
@@ -43,9 +43,9 @@ still_after at t (Some last) h le = omega arith
 
 module _ (faults : List Fault) (n : NetModel) where
   turn_ends : (at t m : ℕ) (net : NetState Node Line) → IsNotAfter at (net.states m).last → at ≤ t → IsNotAfter t (turned_at (net_with faults n) t m net).state.last
-  unfolding system_of turn_of
+  unfolding turn_of
   turn_ends at t m net before le =
-      turn_either (system_of n) faults m (net.states m) t _ (λ (turned : Turned Node Line). IsNotAfter t turned.state.last) (λ wake later. still_after at t (net.states m).last before le) (low t)
+      each_turn faults n t m net (λ (turned : Turned Node Line). IsNotAfter t turned.state.last) (λ wake later. still_after at t (net.states m).last before le) (λ wake later. low t) (λ wake later e. low t)
     where
       low : (t : ℕ) → t ≤ t
       low t = omega arith

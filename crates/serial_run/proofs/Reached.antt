@@ -10,7 +10,7 @@ use Rattle.serial_run.specs.declared.engine.Engine.{Engine}
 use Rattle.window_laws.specs.Forward.{RunsForward}
 use Rattle.window_laws.specs.Agenda.{Wake, moment_of, mote_of, IsLeast, up_to}
 use Rattle.window_laws.proofs.Agenda.{below_all, due_has}
-use Rattle.net_agenda.specs.NetSystem.{system_of, tree_at}
+use Rattle.net_agenda.specs.NetSystem.{system_of}
 use Rattle.window_laws.specs.NetStep.{NetState, Done, Turn, boot, turn_at}
 use Rattle.serial_run.specs.IsInState.{IsEngineAt, IsInside, HasNumberAt}
 use Rattle.serial_run.specs.Ended.{HasReached, HasEnded}
@@ -33,7 +33,7 @@ pub inside_least : (n : NetModel) (t m : ℕ) (state : NetState Node Line) → I
 inside_least n t m state inside least =
     due_has (λ u k. k < length n.motes) t m state.agenda least.is_there inside
 
-pub numbered_at : (faults : List Fault) (n : NetModel) (engine : Engine) (m : ℕ) (at : HasReached faults n engine) → m < length n.motes → HasNumberAt (tree_at n m) engine.motes.items m
+pub numbered_at : (faults : List Fault) (n : NetModel) (engine : Engine) (m : ℕ) (at : HasReached faults n engine) → m < length n.motes → HasNumberAt n engine.motes.items m
 numbered_at faults n engine m at there d = subst (λ o. IfSome o (λ (x : Node). x.mote.state.mote ≡ m)) (sym (at.in_state.nodes m there d)) (at.numbered m)
 
 pub reached_next : (faults : List Fault) (n : NetModel) → RunsForward (net_with faults n) → (old new : Engine) (t m end : ℕ) → end ≡ n.end → (at : HasReached faults n old) → IsLeast t m at.state.agenda → t ≤ end

@@ -17,7 +17,8 @@ use Rattle.serial_run.specs.FaultRun.{packet_with, IsReportWith}
 use Rattle.serial_run.specs.NetRun.{report_at}
 use Rattle.serial_run.specs.IsInState.{IsWhole}
 use Rattle.serial_run.specs.Ended.{HasEnded}
-use Rattle.serial_run.proofs.Handed.{traces_hand_on}
+use Rattle.serial_run.specs.Lives.{AreLives, HaveLives}
+use Rattle.serial_run.proofs.Handed.{one_life, traces_hand_on}
 
 -- if a list has the values of a function at each place, it is the list of these values
 pub family : {X Y : Type 0} (g : X → Y) (f : ℕ → Y) (xs : List X) → ((k : ℕ) → k < length xs → (d : X) → g (get_or xs k d) ≡ f k) → map g xs ≡ map f (up_to (length xs))
@@ -50,7 +51,10 @@ report_is faults n engine report whole at traces log left = record {
         family trace_lines_in at.last.traces engine.traces.items (λ k h d. at.in_state.traces k (let e = whole.traces in omega arith) d)
         ∙ ap (λ j. map at.last.traces (up_to j)) whole.traces
 
-pub all_in_order : (faults : List Fault) (n : NetModel) (engine : Engine) → IsWhole n engine → HasEnded faults n engine → All (λ (v : Vec Line Global). IsInOrder v.items) engine.traces.items
-all_in_order faults n engine whole at k d h =
+pub all_live : (faults : List Fault) (n : NetModel) (engine : Engine) → IsWhole n engine → HasEnded faults n engine → HaveLives faults engine.traces.items
+all_live faults n engine whole at k d h =
     let there : k < length n.motes = (let e = whole.traces in omega arith) in
-    subst IsInOrder (sym (at.in_state.traces k there d)) (traces_hand_on faults n (report_at (packet_with faults n.radio) n at.last) (record { last = at.last; run = at.run; matches = refl }) k there)
+    subst (AreLives faults k) (sym (at.in_state.traces k there d)) (traces_hand_on faults n (report_at (packet_with faults n.radio) n at.last) (record { last = at.last; run = at.run; matches = refl }) k there)
+
+pub all_in_order : (traces : List (Vec Line Global)) → HaveLives [] traces → All (λ (v : Vec Line Global). IsInOrder v.items) traces
+all_in_order traces lives k d h = one_life k _ (lives k d h)

@@ -5,16 +5,17 @@ use Rattle.trace_lines.specs.declared.line.Line.{Line}
 use Rattle.radio_packet.specs.declared.sent.Sent.{Sent}
 use Rattle.kernel_laws.specs.Stamps.{PacketsBear}
 use Rattle.mote_laws.proofs.Stamps.{turns_stamp, new_is}
-use Rattle.mote_node.specs.Turn.{Node}
+use Rattle.mote_node.specs.Turn.{Node, turn_of}
 use Rattle.mote_net.specs.Net.{NetModel}
 use Rattle.window_laws.specs.NetStep.{NetState, Run, Done, Turn, boot, stamped, sends_of, turned_at, turn_at}
 use Rattle.window_laws.proofs.Puts.{put_each}
-use Rattle.net_agenda.specs.NetSystem.{system_of, mote_at}
+use Rattle.net_agenda.specs.Buckets.{arrivals_at}
+use Rattle.net_agenda.specs.NetSystem.{system_of, first_node_in, mote_at}
 use Rattle.serial_run.specs.Stamps.{AreStamped, SendsAreStamped}
 use Rattle.serial_run.specs.Ended.{AreNumbered}
 use Rattle.radio_faults.specs.declared.fault.Fault.{Fault}
-use Rattle.serial_run.specs.FaultRun.{net_with}
-use Rattle.fault_laws.proofs.Forward.{turn_either}
+use Rattle.serial_run.specs.FaultRun.{net_with, node_again}
+use Rattle.serial_run.proofs.EachTurn.{each_turn, first_number}
 use Rattle.window_laws.specs.System.{Turned}
 
 pub stamped_is : (t m : ℕ) (sends : List Sent) → PacketsBear t m sends → map (stamped t m) sends ≡ sends
@@ -31,22 +32,26 @@ module _ (faults : List Fault) (n : NetModel) where
   unfolding system_of
   boot_numbered k = let m = mote_at n.motes k in (new_is m.tree k m.queue).0
 
-  number_kept : (t m : ℕ) (net : NetState Node Line) → (turned_at (net_with faults n) t m net).state.mote.state.mote ≡ (net.states m).mote.state.mote
-  unfolding system_of
-  number_kept t m net = turn_either (system_of n) faults m (net.states m) t _ (λ (turned : Turned Node Line). turned.state.mote.state.mote ≡ (net.states m).mote.state.mote) (λ wake later. refl) (turns_stamp t _ (net.states m)).mote
+  number_is : (t m : ℕ) (net : NetState Node Line) → (net.states m).mote.state.mote ≡ m → (turned_at (net_with faults n) t m net).state.mote.state.mote ≡ m
+  number_is t m net number = each_turn faults n t m net (λ (turned : Turned Node Line). turned.state.mote.state.mote ≡ m)
+      (λ wake later. number)
+      (λ wake later. (turns_stamp t _ (net.states m)).mote ∙ number)
+      (λ wake later e. (turns_stamp t _ (node_again (first_node_in n m) (net.states m))).mote ∙ first_number n m)
 
-  sends_bear : (t m : ℕ) (net : NetState Node Line) → PacketsBear t (net.states m).mote.state.mote (turned_at (net_with faults n) t m net).sends
-  unfolding system_of
-  sends_bear t m net = turn_either (system_of n) faults m (net.states m) t _ (λ (turned : Turned Node Line). PacketsBear t (net.states m).mote.state.mote turned.sends) (λ wake later. All-nil _) (turns_stamp t _ (net.states m)).packets
+  sends_bear : (t m : ℕ) (net : NetState Node Line) → (net.states m).mote.state.mote ≡ m → PacketsBear t m (turned_at (net_with faults n) t m net).sends
+  sends_bear t m net number = each_turn faults n t m net (λ (turned : Turned Node Line). PacketsBear t m turned.sends)
+      (λ wake later. All-nil _)
+      (λ wake later. subst (λ k. PacketsBear t k (turn_of t (arrivals_at t m net.agenda) (net.states m)).sends) number (turns_stamp t _ (net.states m)).packets)
+      (λ wake later e. subst (λ k. PacketsBear t k (turn_of t (arrivals_at t m net.agenda) (node_again (first_node_in n m) (net.states m))).sends) (first_number n m) (turns_stamp t _ (node_again (first_node_in n m) (net.states m))).packets)
 
   pub turn_numbered : (t m : ℕ) (net : NetState Node Line) → AreNumbered net → AreNumbered (turn_at (net_with faults n) t m net)
   turn_numbered t m net numbered =
-      put_each (λ k (x : Node). x.mote.state.mote ≡ k) net.states m (turned_at (net_with faults n) t m net).state (number_kept t m net ∙ numbered m) (λ k ne. numbered k)
+      put_each (λ k (x : Node). x.mote.state.mote ≡ k) net.states m (turned_at (net_with faults n) t m net).state (number_is t m net (numbered m)) (λ k ne. numbered k)
 
   turn_stamped : (t m : ℕ) (net : NetState Node Line) → AreNumbered net → sends_of t m (turned_at (net_with faults n) t m net) ≡ (turned_at (net_with faults n) t m net).sends
   turn_stamped t m net numbered =
       let sends = (turned_at (net_with faults n) t m net).sends in
-      stamped_is t m sends (subst (λ k. PacketsBear t k sends) (numbered m) (sends_bear t m net))
+      stamped_is t m sends (sends_bear t m net (numbered m))
 
   run_stamped : {net last : NetState Node Line} (run : Run (net_with faults n) n.end net last) → AreNumbered net → AreStamped run
   run_stamped (Done late) numbered = tt

@@ -15,15 +15,16 @@ use Rattle.mote_laws.proofs.Stamps.{turns_stamp, new_is}
 use Rattle.mote_node.specs.Turn.{Node}
 use Rattle.mote_node.proofs.WakeLaws.{wakes_later}
 use Rattle.radio_medium.proofs.Copies.{copies_later}
-use Rattle.fault_laws.proofs.Forward.{turn_either, with_later}
+use Rattle.radio_faults.proofs.Forward.{sooner_is_later, with_later}
+use Rattle.serial_run.proofs.EachTurn.{each_turn}
 use Rattle.mote_net.specs.Net.{NetModel}
 use Rattle.window_laws.specs.System.{Turned}
 use Rattle.window_laws.specs.Forward.{IsLater}
 use Rattle.window_laws.specs.Agenda.{Item, moment_of, mote_of, is_left, is_from, IsLeast}
 use Rattle.window_laws.specs.Agenda.{up_to}
-use Rattle.net_agenda.specs.NetSystem.{system_of, mote_at}
+use Rattle.net_agenda.specs.NetSystem.{system_of, first_node_in, mote_at}
 use Rattle.mote_net.specs.Report.{ReportModel, Packet as OfReport}
-use Rattle.serial_run.specs.FaultRun.{net_with, packet_with}
+use Rattle.serial_run.specs.FaultRun.{boots_line, net_with, node_again, packet_with}
 use Rattle.window_laws.specs.NetStep.{NetState, Run, Done, Turn, boot, stamped, turned_at, turn_at}
 use Rattle.serial_run.specs.Stamps.{TracesNeverGoBack, sent_by, LogCountsUp}
 use Rattle.window_laws.proofs.Agenda.{due_has}
@@ -43,12 +44,16 @@ module _ (faults : List Fault) (n : NetModel) where
   next t m net = turned_at (net_with faults n) t m net
 
   lines_bear : (t m : ℕ) (net : NetState Node Line) → LinesBear t (next t m net).lines
-  unfolding system_of
-  lines_bear t m net = turn_either (system_of n) faults m (net.states m) t _ (λ (turned : Turned Node Line). LinesBear t turned.lines) (λ wake later. All-nil (λ (l : Line). l.at ≡ t)) (turns_stamp t _ (net.states m)).lines
+  lines_bear t m net = each_turn faults n t m net (λ (turned : Turned Node Line). LinesBear t turned.lines)
+      (λ wake later. All-nil (λ (l : Line). l.at ≡ t))
+      (λ wake later. (turns_stamp t _ (net.states m)).lines)
+      (λ wake later e. All-cons (λ (l : Line). l.at ≡ t) (boots_line t) _ refl (turns_stamp t _ (node_again (first_node_in n m) (net.states m))).lines)
 
   wake_is_later : (t m : ℕ) (net : NetState Node Line) → IsLater t (next t m net).wake
-  unfolding system_of
-  wake_is_later t m net = turn_either (system_of n) faults m (net.states m) t _ (λ (turned : Turned Node Line). IsLater t turned.wake) (λ wake later. later) (wakes_later t _ (net.states m))
+  wake_is_later t m net = each_turn faults n t m net (λ (turned : Turned Node Line). IsLater t turned.wake)
+      (λ wake later. later)
+      (λ wake later. sooner_is_later t _ wake (wakes_later t _ (net.states m)) later)
+      (λ wake later e. sooner_is_later t _ wake (wakes_later t _ (node_again (first_node_in n m) (net.states m))) later)
 
   copies_are_later : (sent : Sent) → AllByRecursion (λ copy. sent.at ≤ copy.at) ((net_with faults n).copies sent)
   unfolding system_of
@@ -128,12 +133,16 @@ sent_of node = node.mote.state.sent
 
 module _ (faults : List Fault) (n : NetModel) where
   sends_numbered : (t m : ℕ) (net : NetState Node Line) → AreNumberedFrom (sent_of (net.states m)) (turned_at (net_with faults n) t m net).sends
-  unfolding system_of
-  sends_numbered t m net = turn_either (system_of n) faults m (net.states m) t _ (λ (turned : Turned Node Line). AreNumberedFrom (sent_of (net.states m)) turned.sends) (λ wake later. refl) (turns_stamp t _ (net.states m)).numbered
+  sends_numbered t m net = each_turn faults n t m net (λ (turned : Turned Node Line). AreNumberedFrom (sent_of (net.states m)) turned.sends)
+      (λ wake later. refl)
+      (λ wake later. (turns_stamp t _ (net.states m)).numbered)
+      (λ wake later e. (turns_stamp t _ (node_again (first_node_in n m) (net.states m))).numbered)
 
   sends_counted : (t m : ℕ) (net : NetState Node Line) → sent_of (turned_at (net_with faults n) t m net).state ≡ sent_of (net.states m) + length (turned_at (net_with faults n) t m net).sends
-  unfolding system_of
-  sends_counted t m net = turn_either (system_of n) faults m (net.states m) t _ (λ (turned : Turned Node Line). sent_of turned.state ≡ sent_of (net.states m) + length turned.sends) (λ wake later. omega arith) (turns_stamp t _ (net.states m)).counted
+  sends_counted t m net = each_turn faults n t m net (λ (turned : Turned Node Line). sent_of turned.state ≡ sent_of (net.states m) + length turned.sends)
+      (λ wake later. omega arith)
+      (λ wake later. (turns_stamp t _ (net.states m)).counted)
+      (λ wake later e. (turns_stamp t _ (node_again (first_node_in n m) (net.states m))).counted)
 
   own_counts : (t m : ℕ) (net : NetState Node Line) → Counts net m → Counts (turn_at (net_with faults n) t m net) m
   own_counts t m net c =

@@ -7,7 +7,6 @@ use Rattle.std.specs.declared.alloc.Global.{Global}
 use Rattle.std.specs.List.{filter, flat_map}
 use Rattle.std.proofs.lemmas.Bool.{cases_Bool, cases_eq, eq-eqb}
 use Rattle.std.proofs.lemmas.List.{length-set, map-append}
-use Rattle.program_tree.specs.Code.{Tree}
 use Rattle.radio_packet.specs.declared.arrival.Arrival.{Arrival}
 use Rattle.trace_lines.specs.declared.line.Line.{Line}
 use Rattle.radio_packet.specs.declared.sent.Sent.{Sent}
@@ -17,53 +16,44 @@ use Rattle.mote_node.specs.Turn.{Node, turn_of}
 use Rattle.mote_node.specs.Public.{node_in, turn_given}
 use Rattle.kernel_laws.specs.Stamps.{PacketsBear}
 use Rattle.mote_laws.proofs.Stamps.{turns_stamp}
-use Rattle.mote_node.specs.Turn as node
 use Rattle.mote_net.specs.Net.{NetModel}
 use Rattle.mote_net.specs.Report.{line_model}
 use Rattle.serial_run.specs.declared.engine.Engine.{Engine}
 use Rattle.window_laws.specs.Agenda.{Item, Packet, comes_at, is_wake_of, is_left, wake_items}
 use Rattle.net_agenda.specs.Buckets.{HoldsItems, arrivals_at, wake_but_at}
-use Rattle.net_agenda.specs.NetSystem.{system_of, tree_at, turned_of}
-use Rattle.fault_laws.specs.WithFaults.{no_turn}
-use Rattle.radio_faults.specs.Off.{is_off, next_start}
+use Rattle.net_agenda.specs.NetSystem.{first_node_in, system_of, tree_at, turned_of}
+use Rattle.radio_faults.specs.Off.{boots}
 use Rattle.radio_packet.specs.declared.copy.RadioCopy.{RadioCopy}
 use Rattle.window_laws.specs.System.{Turned}
-use Rattle.serial_run.specs.FaultRun.{net_with, packet_with}
+use Rattle.serial_run.specs.FaultRun.{net_with, node_again, packet_with}
 use Rattle.window_laws.specs.NetStep.{NetState, after_turn, sends_of, stamped, turn_at, turned_at}
-use Rattle.serial_run.specs.IsInState.{IsEngineAt, IsWhole, OneTakesTurn, turn_given_with}
+use Rattle.serial_run.specs.IsInState.{IsEngineAt, IsWhole, OneTakesTurn, TookTurn, node_turn_on, node_turn_with, own_turn, turn_again}
 use Rattle.net_agenda.specs.Traces.{AddsLines}
 use Rattle.window_laws.proofs.Lists.{filter_filter, filter_both}
 use Rattle.window_laws.proofs.Puts.{put_each}
 use Rattle.serial_run.specs.OnTime.{CanTurn}
 use Rattle.window_laws.proofs.Agenda.{wakes_other, wakes_own}
+use Rattle.serial_run.proofs.EachTurn.{first_number}
 use Rattle.serial_run.proofs.Stamped.{stamped_is}
 use Rattle.radio_faults.specs.declared.fault.Fault.{Fault}
 use Rattle.serial_run.specs.Counted.{all_copies}
 
 -- the outcome of a turn, and the state to which it led
-record Tells (o : Option Node) (out : TurnOut) (t : node.TurnGiven) : Type 0 where
-  node : o ≡ Some t.node
+record Tells (o : Option Node) (out : TurnOut) (t : Turned Node Line) : Type 0 where
+  node : o ≡ Some t.state
   lines : out.lines.items ≡ t.lines
   sends : out.sends.items ≡ t.sends
   wake : out.wake ≡ t.wake
 
-tells : (o : Option Node) (out : TurnOut) (t : node.TurnGiven) → option_map (turn_given out) o ≡ Some t → Tells o out t
+tells : (o : Option Node) (out : TurnOut) (t : Turned Node Line) → option_map (λ x. turned_of (turn_given out x)) o ≡ Some t → Tells o out t
 tells None out t e = cc
 tells (Some x) out t e =
-    let f : turn_given out x ≡ t = cc in record {
-      node = ap (λ (u : node.TurnGiven). Some u.node) f;
-      lines = ap (λ (u : node.TurnGiven). u.lines) f;
-      sends = ap (λ (u : node.TurnGiven). u.sends) f;
-      wake = ap (λ (u : node.TurnGiven). u.wake) f;
+    let f : turned_of (turn_given out x) ≡ t = cc in record {
+      node = ap (λ (u : Turned Node Line). Some u.state) f;
+      lines = ap (λ (u : Turned Node Line). u.lines) f;
+      sends = ap (λ (u : Turned Node Line). u.sends) f;
+      wake = ap (λ (u : Turned Node Line). u.wake) f;
     }
-
--- a mote's packets have the moment of the turn and the mote's number
-pub turn_stamps : (t m : ℕ) (packets : List Arrival) (before after : Option Node) (out : TurnOut) → CanTurn t before → IfSome before (λ n. n.mote.state.mote ≡ m)
-    → option_map (turn_given out) after ≡ option_map (turn_of t packets) before → PacketsBear t m out.sends.items
-turn_stamps t m packets None after out can number e = absurd can
-turn_stamps t m packets (Some n) after out can number e =
-    subst (PacketsBear t m) (sym (tells after out (turn_of t packets n) e).sends)
-    (subst (λ k. PacketsBear t k (turn_of t packets n).sends) number (turns_stamp t packets n).packets)
 
 -- the mote's wake, without one that is due
 wake_later : (t m : ℕ) (wake : Option ℕ) → filter (λ item. not (comes_at t m item)) (wake_items m wake) ≡ wake_items m (wake_but_at t wake)
@@ -80,46 +70,28 @@ neither : (a b : Bool) → not (a || b) ≡ (not a && not b)
 neither true b = refl
 neither false b = refl
 
-module _ (tree : Tree) (faults : List Fault) (t m : ℕ) (packets : List Arrival) where
-  -- while the mote is off, nothing happens in its turn
-  pub stays_off : (motes : List Mote) (out : TurnOut) → is_off faults m t ≡ true → out.lines.items ≡ [] → out.sends.items ≡ [] → out.wake ≡ next_start faults m t
-      → OneTakesTurn tree faults t packets m motes motes out
-  stays_off motes out off lines sends wake = record {
-    count = refl;
-    others = λ j ne d. refl;
-    turned = λ d. same (node_in tree (get_or motes m d));
-  }
+module _ (n : NetModel) (faults : List Fault) (m t : ℕ) (packets : List Arrival) where
+  -- the packets of a mote that is on have the moment of the turn and the mote's number
+  pub turn_stamps : (old new : Mote) (out : TurnOut) → CanTurn t (node_in (tree_at n m) old) → IfSome (node_in (tree_at n m) old) (λ x. x.mote.state.mote ≡ m)
+      → TookTurn n m (node_turn_on n faults t m packets) old new out → PacketsBear t m out.sends.items
+  turn_stamps old new out = of (node_in (tree_at n m) old) (node_in (tree_at n m) new)
     where
-      same : (o : Option Node) → option_map (turn_given out) o ≡ option_map (turn_given_with faults t m packets) o
-      same None = refl
-      same (Some x) = rw (off, lines, sends, wake) refl
+      each : (is : Bool) (x : Node) → x.mote.state.mote ≡ m → PacketsBear t m (if is then turn_again n t m packets x else own_turn t packets x).sends
+      each true x number = subst (λ k. PacketsBear t k (turn_of t packets (node_again (first_node_in n m) x)).sends) (first_number n m) (turns_stamp t packets (node_again (first_node_in n m) x)).packets
+      each false x number = subst (λ k. PacketsBear t k (turn_of t packets x).sends) number (turns_stamp t packets x).packets
 
-  -- a mote that isn't off takes its own turn
-  pub takes_turn : (old : List Mote) (after : Mote) (out : TurnOut) → is_off faults m t ≡ false → m < length old
-      → ((d : Mote) → option_map (turn_given out) (node_in tree after) ≡ option_map (turn_of t packets) (node_in tree (get_or old m d)))
-      → OneTakesTurn tree faults t packets m old (slice_set old m after) out
-  takes_turn old after out on there turned = record {
-    count = length-set old m after;
-    others = λ j ne d. get_or-set_other old m j after d ne;
-    turned = λ d. ap (λ x. option_map (turn_given out) (node_in tree x)) (get_or-set_same old m after d there) ∙ (turned d ∙ same (node_in tree (get_or old m d)));
-  }
-    where
-      same : (o : Option Node) → option_map (turn_of t packets) o ≡ option_map (turn_given_with faults t m packets) o
-      same None = refl
-      same (Some x) = rw on refl
+      of : (before after : Option Node) → CanTurn t before → IfSome before (λ x. x.mote.state.mote ≡ m)
+          → option_map (λ x. turned_of (turn_given out x)) after ≡ option_map (node_turn_on n faults t m packets) before → PacketsBear t m out.sends.items
+      of None after can number e = absurd can
+      of (Some x) after can number e = subst (PacketsBear t m) (sym (tells after out (node_turn_on n faults t m packets x) e).sends) (each (boots faults m t) x number)
 
 module _ (faults : List Fault) (n : NetModel) (t m : ℕ) (state : NetState Node Line) where
-  abbrev turned : node.TurnGiven
-  turned = turn_given_with faults t m (arrivals_at t m state.agenda) (state.states m)
+  abbrev turned : Turned Node Line
+  turned = node_turn_with n faults t m (arrivals_at t m state.agenda) (state.states m)
 
-  turned_is : turned_of turned ≡ turned_at (net_with faults n) t m state
+  turned_is : turned ≡ turned_at (net_with faults n) t m state
   unfolding system_of
-  turned_is = when (is_off faults m t)
-    where
-      when : (off : Bool) → turned_of (if off then record { node = state.states m; lines = []; sends = []; wake = next_start faults m t } else turn_of t (arrivals_at t m state.agenda) (state.states m))
-          ≡ (if off then no_turn (state.states m) (next_start faults m t) else turned_of (turn_of t (arrivals_at t m state.agenda) (state.states m)))
-      when true = refl
-      when false = refl
+  turned_is = refl
 
   -- the agenda after a turn, in the order in which the engine builds it
   abbrev pub agenda_after : Option ℕ → List Sent → List Item
@@ -127,18 +99,18 @@ module _ (faults : List Fault) (n : NetModel) (t m : ℕ) (state : NetState Node
       (filter (λ item. not (is_wake_of m item)) (filter (λ item. not (comes_at t m item)) state.agenda) ++ wake_items m wake)
       ++ map Packet (all_copies faults n.radio sends)
 
-  pub in_state_turn : (old new : Engine) (tree : Tree) (packets : List Arrival) (out : TurnOut)
+  pub in_state_turn : (old new : Engine) (packets : List Arrival) (out : TurnOut)
       → m < length n.motes → IsWhole n old → IsEngineAt faults n old state
-      → tree ≡ tree_at n m → packets ≡ arrivals_at t m state.agenda
-      → OneTakesTurn tree faults t packets m old.motes.items new.motes.items out → new.wakes.items ≡ slice_set old.wakes.items m out.wake → PacketsBear t m out.sends.items
+      → packets ≡ arrivals_at t m state.agenda
+      → OneTakesTurn n faults t packets m old.motes.items new.motes.items out → new.wakes.items ≡ slice_set old.wakes.items m out.wake → PacketsBear t m out.sends.items
       → AddsLines m out.lines.items old.traces.items new.traces.items
       → HoldsItems new.agenda.buckets (agenda_after out.wake out.sends.items)
       → map line_model new.log.items ≡ map line_model old.log.items ++ map (packet_with faults n.radio) out.sends.items
       → IsEngineAt faults n new (turn_at (net_with faults n) t m state)
   unfolding system_of
-  in_state_turn old new tree packets out there whole at tree_is packets_are takes put_wake bear adds agenda log = subst (λ (x : Turned Node Line). IsEngineAt faults n new (after_turn (net_with faults n) t m state x)) turned_is (record {
+  in_state_turn old new packets out there whole at packets_are takes put_wake bear adds agenda log = subst (λ (x : Turned Node Line). IsEngineAt faults n new (after_turn (net_with faults n) t m state x)) turned_is (record {
     nodes =
-        put_each (λ k (x : Node). k < length n.motes → (d : Mote) → node_in (tree_at n k) (get_or new.motes.items k d) ≡ Some x) state.states m turned.node
+        put_each (λ k (x : Node). k < length n.motes → (d : Mote) → node_in (tree_at n k) (get_or new.motes.items k d) ≡ Some x) state.states m turned.state
         (λ h d. (is d).node)
         (λ k ne h d. ap (node_in (tree_at n k)) (takes.others k ne d) ∙ at.nodes k h d);
     wakes = λ k h d. elim (cases_eq k m) [
@@ -169,18 +141,16 @@ module _ (faults : List Fault) (n : NetModel) (t m : ℕ) (state : NetState Node
       traced = let e = whole.traces in omega arith
 
       after : NetState Node Line
-      after = after_turn (net_with faults n) t m state (turned_of turned)
+      after = after_turn (net_with faults n) t m state turned
 
       given : List RadioCopy
-      given = flat_map (net_with faults n).copies (sends_of t m (turned_of turned))
+      given = flat_map (net_with faults n).copies (sends_of t m turned)
 
       -- the mote after the turn
       is : (d : Mote) → Tells (node_in (tree_at n m) (get_or new.motes.items m d)) out turned
       is d = tells _ out turned (
-          ap (λ x. option_map (turn_given out) (node_in x (get_or new.motes.items m d))) (sym tree_is)
-          ∙ (takes.turned d
-          ∙ (ap (λ x. option_map (turn_given_with faults t m packets) (node_in x (get_or old.motes.items m d))) tree_is
-          ∙ (ap (option_map (turn_given_with faults t m packets)) (at.nodes m there d) ∙ ap (λ p. Some (turn_given_with faults t m p (state.states m))) packets_are))))
+          takes.turned d
+          ∙ (ap (option_map (node_turn_with n faults t m packets)) (at.nodes m there d) ∙ ap (λ p. Some (node_turn_with n faults t m p (state.states m))) packets_are))
 
       some : Mote
       some = any_of old.motes.items m (let e = whole.motes in omega arith)

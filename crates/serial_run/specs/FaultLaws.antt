@@ -3,7 +3,7 @@ use Rattle.std.specs.Prelude.{◌≡◌, ℕ, ◌&&◌, ◌||◌, Bool, true, fa
 use Rattle.std.specs.List.{AllByRecursion, list_any}
 use Rattle.radio_packet.specs.declared.fate.Fate.{Fate}
 use Rattle.radio_faults.specs.declared.fault.Fault.{Fault}
-use Rattle.radio_faults.specs.declared.fault.Fault.TheVariants.{Link, Silent, Lost, LostToAll, Late, OffFrom, OffUntil}
+use Rattle.radio_faults.specs.declared.fault.Fault.TheVariants.{Link, Silent, Lost, LostToAll, Late, Off}
 use Rattle.radio_faults.specs.Faults.{names}
 use Rattle.radio_faults.specs.LossTables.{IsOfLinks, radio_with}
 use Rattle.mote_net.specs.Net.{NetModel}
@@ -24,10 +24,9 @@ names_copy_of fault packet =
 abbrev pub names_copy_in : Fault → ReportModel → Bool
 names_copy_in fault r = list_any (names_copy_of fault) r.log
 
--- because of the fault a mote is off, whatever is sent
+-- because of the fault a mote is off or boots again, whatever is sent
 abbrev pub is_of_motes : Fault → Bool
-is_of_motes (OffFrom mote from) = true
-is_of_motes (OffUntil mote until) = true
+is_of_motes (Off mote from until) = true
 is_of_motes fault = false
 
 -- the fault may change a run with this report

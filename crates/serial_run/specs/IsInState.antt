@@ -1,5 +1,5 @@
 -- The state of the engine during a run.
-use Rattle.std.specs.Prelude.{ℕ, ◌≡◌, ◌<◌, if◌then◌else◌, List, [], length, map, Vec, Option, Some, option_map}
+use Rattle.std.specs.Prelude.{ℕ, ◌≡◌, ◌<◌, List, length, map, Vec, Option, Some, option_map}
 use Rattle.std.specs.Prelude.{slice_index_or, IfSome}
 use Rattle.std.specs.List.{filter, AllByRecursion}
 use Rattle.std.specs.declared.alloc.Global.{Global}
@@ -7,20 +7,20 @@ use Rattle.radio_packet.specs.declared.arrival.Arrival.{Arrival}
 use Rattle.trace_lines.specs.declared.line.Line.{Line}
 use Rattle.mote_node.specs.declared.mote.Mote.{Mote}
 use Rattle.mote_node.specs.declared.mote.TurnOut.{TurnOut}
-use Rattle.mote_node.specs.Turn.{Node, TurnGiven, turn_of}
+use Rattle.mote_node.specs.Turn.{Node, turn_of}
 use Rattle.mote_node.specs.Public.{node_in, turn_given}
 use Rattle.mote_net.specs.Net.{NetModel}
 use Rattle.mote_net.specs.Report.{line_model}
 use Rattle.serial_run.specs.declared.engine.Engine.{Engine}
 use Rattle.window_laws.specs.Agenda.{mote_of, is_wake_of, wake_items}
 use Rattle.net_agenda.specs.Buckets.{HoldsItems}
-use Rattle.net_agenda.specs.NetSystem.{tree_at}
+use Rattle.net_agenda.specs.NetSystem.{first_node_in, tree_at, turned_of}
 use Rattle.radio_faults.specs.declared.fault.Fault.{Fault}
-use Rattle.radio_faults.specs.Off.{is_off, next_start}
-use Rattle.serial_run.specs.FaultRun.{net_with, packet_with}
+use Rattle.radio_faults.specs.WithFaults.{telling, turn_on, turn_with}
+use Rattle.serial_run.specs.FaultRun.{boots_line, net_with, node_again, node_reboot, packet_with}
 use Rattle.serial_run.specs.OnTime.{CanTurn}
 use Rattle.window_laws.specs.NetStep.{NetState, turn_at}
-use Rattle.program_tree.specs.Code as code
+use Rattle.window_laws.specs.System.{Turned}
 
 -- the engine's mote with this number has not failed, and represents the mote's state in the net
 abbrev pub OneNode : NetModel → List Mote → NetState Node Line → (mote : ℕ) → Type 0
@@ -57,23 +57,41 @@ TurnLeads faults n moment mote old new = (state : NetState Node Line) → IsEngi
     → IsEngineAt faults n new (turn_at (net_with faults n) moment mote state)
 
 -- the mote at this index has not failed, and its last turn, if there was one, was before this moment
-abbrev pub CanTurnAt : code.Tree → (moment : ℕ) → List Mote → (mote : ℕ) → Type 0
-CanTurnAt tree moment motes k = (d : Mote) → CanTurn moment (node_in tree (slice_index_or motes k d))
+abbrev pub CanTurnAt : NetModel → (moment : ℕ) → List Mote → (mote : ℕ) → Type 0
+CanTurnAt n moment motes k = (d : Mote) → CanTurn moment (node_in (tree_at n k) (slice_index_or motes k d))
 
 -- the mote at this index has this index as its number
-abbrev pub HasNumberAt : code.Tree → List Mote → (mote : ℕ) → Type 0
-HasNumberAt tree motes k = (d : Mote) → IfSome (node_in tree (slice_index_or motes k d)) (λ n. n.mote.state.mote ≡ k)
+abbrev pub HasNumberAt : NetModel → List Mote → (mote : ℕ) → Type 0
+HasNumberAt n motes k = (d : Mote) → IfSome (node_in (tree_at n k) (slice_index_or motes k d))
+    (λ x. x.mote.state.mote ≡ k)
 
--- the turn of the mote with this number; nothing happens in it while the mote is off
-abbrev pub turn_given_with : List Fault → (moment mote : ℕ) → List Arrival → Node → TurnGiven
-turn_given_with faults moment k packets n =
-    if is_off faults k moment then record { node = n; lines = []; sends = []; wake = next_start faults k moment }
-    else turn_of moment packets n
+-- a mote took a turn with this output, which is the turn that a node takes
+abbrev pub TookTurn : NetModel → (mote : ℕ) → (turn : Node → Turned Node Line) → (old new : Mote) → TurnOut → Type 0
+TookTurn n k turn old new out = option_map (λ x. turned_of (turn_given out x)) (node_in (tree_at n k) new)
+    ≡ option_map turn (node_in (tree_at n k) old)
+
+-- the turn without faults of a node
+abbrev pub own_turn : (moment : ℕ) → List Arrival → Node → Turned Node Line
+own_turn moment packets x = turned_of (turn_of moment packets x)
+
+-- the turn of the mote with this number if it boots again
+abbrev pub turn_again : NetModel → (moment mote : ℕ) → List Arrival → Node → Turned Node Line
+turn_again n moment k packets x =
+    telling (boots_line moment) (own_turn moment packets (node_again (first_node_in n k) x))
+
+-- the turn of the mote with this number if it is on
+abbrev pub node_turn_on : NetModel → List Fault → (moment mote : ℕ) → List Arrival → Node → Turned Node Line
+node_turn_on n faults moment k packets = turn_on node_reboot faults k moment (first_node_in n k) (own_turn moment packets)
+
+-- the turn of the mote with this number
+abbrev pub node_turn_with : NetModel → List Fault → (moment mote : ℕ) → List Arrival → Node → Turned Node Line
+node_turn_with n faults moment k packets =
+    turn_with node_reboot faults k moment (first_node_in n k) (own_turn moment packets)
 
 -- the mote at index k, and no other mote, took a turn with this output
-pub record OneTakesTurn (tree : code.Tree) (faults : List Fault) (moment : ℕ) (packets : List Arrival) (k : ℕ)
+pub record OneTakesTurn (n : NetModel) (faults : List Fault) (moment : ℕ) (packets : List Arrival) (k : ℕ)
     (old new : List Mote) (out : TurnOut) : Type 0 where
   pub count : length new ≡ length old
   pub others : (j : ℕ) → (j ≡ k → ⊥) → (d : Mote) → slice_index_or new j d ≡ slice_index_or old j d
-  pub turned : (d : Mote) → option_map (turn_given out) (node_in tree (slice_index_or new k d))
-      ≡ option_map (turn_given_with faults moment k packets) (node_in tree (slice_index_or old k d))
+  pub turned : (d : Mote)
+      → TookTurn n k (node_turn_with n faults moment k packets) (slice_index_or old k d) (slice_index_or new k d) out

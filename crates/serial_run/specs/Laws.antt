@@ -20,6 +20,7 @@ use Rattle.net_agenda.specs.Items.{AreSameItems, WakesDiffer, items_of}
 use Rattle.radio_faults.specs.declared.fault.Fault.{Fault}
 use Rattle.mote_net.specs.Report.{ReportModel}
 use Rattle.serial_run.specs.FaultRun.{net_with, packet_with, IsReportWith}
+use Rattle.serial_run.specs.Lives.{AreLives}
 
 -- a net has at most one report
 abbrev pub ReportIsOne : Type 0
@@ -69,11 +70,16 @@ WindowsCommuteInNets = (faults : List Fault) (model : NetModel) → medium_fault
     → IsLeft (net_with faults model) model.end motes rest
     → IsReportWith faults model (report_by faults model motes log rest)
 
--- in the lines of each mote, events are delivered in the order in which they were accepted, without gaps (those left
--- at the end aren't delivered), nothing follows a halt, and a process starts only if it isn't listed
+-- the trace of each mote has the lines of its lives: in each of them events are delivered in the order in which they were
+-- accepted, without gaps (those left at the end aren't delivered), nothing follows a halt, and a process starts only if it
+-- isn't listed
 abbrev pub TracesHandOn : Type 0
 TracesHandOn = (faults : List Fault) (model : NetModel) (r : ReportModel) (report : IsReportWith faults model r) (k : ℕ) → k < length model.motes
-    → IsInOrder (report.last.traces k)
+    → AreLives faults k (report.last.traces k)
+
+-- the trace of a mote without faults is that of one life
+abbrev pub NoFaultsOneLife : Type 0
+NoFaultsOneLife = (mote : ℕ) (trace : List Line) → AreLives [] mote trace → IsInOrder trace
 
 -- the items in the buckets of an agenda are the items of the list that the buckets represent
 abbrev pub BucketsHoldItems : Buckets → Type 0

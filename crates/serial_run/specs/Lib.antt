@@ -3,6 +3,7 @@ pub mod Ended
 pub mod FaultLaws
 pub mod FaultRun
 pub mod Laws
+pub mod Lives
 pub mod NetRun
 pub mod OnTime
 pub mod RunErrors

@@ -3,7 +3,7 @@
 
 ghost use Rattle.serial_run.specs.Counted.{CopiesComeInTime, LateCopiesStay};
 ghost use Rattle.serial_run.specs.FaultLaws.{LossTablesAgree, OrderMeansNothing, SomeAreUnsent, UnsentIsNothing};
-ghost use Rattle.serial_run.specs.Laws.{AlwaysOneWake, BucketsHoldItems, NetsRunForward, ReportIsOne};
+ghost use Rattle.serial_run.specs.Laws.{AlwaysOneWake, BucketsHoldItems, NetsRunForward, NoFaultsOneLife, ReportIsOne};
 ghost use Rattle.serial_run.specs.Laws.{ReportIsThere, TracesHandOn, WakesAlwaysDiffer, WindowsCommuteInNets};
 ghost use Rattle.serial_run.specs.Stamps.{LogCountsUp, SendsAreStamped, TracesNeverGoBack};
 
@@ -30,10 +30,12 @@ pub fn windows_commute()
     ensures windows_commute_in_nets { WindowsCommuteInNets }
 {}
 
-/// In the lines of each mote of a net, events are delivered in the order in which they were accepted, without gaps
-/// (those left at the end aren't delivered), nothing follows a halt, and a process starts only if it isn't listed.
+/// In the lines of each life of a mote of a net, events are delivered in the order in which they were accepted, without gaps
+/// (those left at the end aren't delivered), nothing follows a halt, and a process starts only if it isn't listed. A mote
+/// has another life only where a fault lets it boot again.
 pub fn traces_hand_on()
     ensures traces_hand_on { TracesHandOn }
+    ensures one_life { NoFaultsOneLife }
 {}
 
 /// The buckets of an agenda have the same items as the net's list of pending events. Each packet occurs in the buckets
@@ -89,7 +91,7 @@ pub fn order_means_nothing()
     ensures order_means_nothing { OrderMeansNothing }
 {}
 
-/// A fault that keeps no mote off, and names no copy in a report but those that are lost anyway, may be added: the report
+/// A fault that keeps no mote off and boots none, and names no copy in a report but those that are lost anyway, may be added: the report
 /// stays the same.
 pub fn unsent_is_nothing()
     ensures unsent_is_nothing { UnsentIsNothing }

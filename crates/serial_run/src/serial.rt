@@ -10,6 +10,7 @@ ghost use Rattle.serial_run.specs.NetRun.{IsReportOf};
 ghost use Rattle.window_laws.specs.NetStep.{boot};
 ghost use Rattle.serial_run.specs.IsInState.{IsEngineAt, IsWhole};
 ghost use Rattle.serial_run.specs.Ended.{HasEnded};
+ghost use Rattle.serial_run.specs.Lives.{HaveLives};
 
 use crate::engine::Engine;
 use crate::error::RunError;
@@ -47,13 +48,14 @@ pub fn run_with_faults(alloc: Global, net: &Net, faults: &[Fault]) -> Result<Rep
     ensures report { IfOk result (λ r. IsReportWith faults.now (net_of net.now) (report_of r)) }
     // There is a trace for each mote.
     ensures traces { IfOk result (λ r. vec_len r.traces ≡ length (net_of net.now).motes) }
-    // Each trace delivers events in the order in which they were accepted, nothing follows a halt in it, and a process
-    // starts only if it isn't listed.
-    ensures handed_on { IfOk result (λ r. All (λ trace. IsInOrder trace.items) r.traces.items) }
+    // Each trace has the lines of one life, or of several, if faults let its mote boot again. Each life delivers events in
+    // the order in which they were accepted, nothing follows a halt in it, and a process starts only if it isn't listed.
+    ensures lives { IfOk result (λ r. HaveLives faults.now r.traces.items) }
 {
     let mut engine = Engine::boot(alloc, net)?;
     run_to_end(&mut engine, net, faults)?;
     let Engine {
+        alloc: _,
         motes: _,
         wakes: _,
         traces,
@@ -77,8 +79,10 @@ pub fn run_with_faults(alloc: Global, net: &Net, faults: &[Fault]) -> Result<Rep
 /// Only `Memory`.
 pub fn run_serial(alloc: Global, net: &Net) -> Result<Report, RunError>
     ensures report { IfOk result (λ r. IsReportOf (net_of net.now) (report_of r)) }
-    // The clauses `traces` and `handed_on` of `run_with_faults`.
+    // There is a trace for each mote.
     ensures traces { IfOk result (λ r. vec_len r.traces ≡ length (net_of net.now).motes) }
+    // Each trace delivers events in the order in which they were accepted, nothing follows a halt in it, and a process
+    // starts only if it isn't listed.
     ensures handed_on { IfOk result (λ r. All (λ trace. IsInOrder trace.items) r.traces.items) }
     ensures err { IfErr result (λ e. e ≡ RunError.Memory) }
 {

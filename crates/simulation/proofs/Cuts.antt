@@ -9,7 +9,7 @@ use Rattle.std.proofs.lemmas.Nat.{mod_below}
 use Rattle.window_laws.specs.Agenda.{up_to}
 use Rattle.window_laws.proofs.Agenda.{below_all}
 use Rattle.window_laws.proofs.Lists.{every_map, every_weaker}
-use Rattle.worker_cut.specs.Cut.{block_cut, stripe_cut}
+use Rattle.copy_exchange.specs.Cut.{block_cut, stripe_cut}
 use Rattle.window_workers.specs.Fits.{cut_fault}
 use Rattle.simulation.specs.Simulation.{MayWork}
 

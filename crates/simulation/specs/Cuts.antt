@@ -1,6 +1,6 @@
 -- The partitions that the options name.
 use Rattle.std.specs.Prelude.{ℕ, List}
-use Rattle.worker_cut.specs.Cut.{block_cut, stripe_cut}
+use Rattle.copy_exchange.specs.Cut.{block_cut, stripe_cut}
 use Rattle.simulation.specs.declared.options.CutKind.{CutKind}
 use Rattle.simulation.specs.declared.options.CutKind.TheVariants as kind
 

@@ -6,13 +6,13 @@ ghost use Rattle.simulation.specs.Cuts.{of_kind};
 ghost use Rattle.simulation.specs.Simulation.{MayWork, RunsWith};
 
 use crate::options::CutKind;
+use copy_exchange::Cut;
 use mote_net::{Net, Report};
 use std::alloc::{AllocError, Global};
 use std::random::RandomSource;
 use std::sync::Wait;
 use std::thread::Threads;
 use window_workers::{Gate, MOST_WORKERS, RunError, SyncKind, run_workers};
-use worker_cut::Cut;
 
 /// Makes the partition of this kind, which fits the motes and the workers.
 fn cut_of(alloc: Global, kind: CutKind, motes: u16, workers: u16) -> Result<Cut, AllocError>

@@ -34,6 +34,8 @@ pub enum What {
     Deaf(u16, u64),
     /// A collision destroyed a packet.
     Collide(u16, u64),
+    /// The mote boots again after a fault. What follows are the lines of a new life: its events have serials from 0 on.
+    Boots,
 }
 
 /// A line of a trace: its moment (a tick of the simulated clock) and its event.

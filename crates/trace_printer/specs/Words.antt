@@ -11,7 +11,7 @@ use Rattle.program_tree.specs.declared.event.SystemEvent.TheVariants as event
 use Rattle.program_tree.specs.Events.{system_number, system_word}
 use Rattle.trace_lines.specs.declared.line.What.{What}
 use Rattle.trace_lines.specs.declared.line.What.TheVariants.{Start, Leave, Post, Full, Take, Drop, Print, Busy, Halt}
-use Rattle.trace_lines.specs.declared.line.What.TheVariants.{Send, Recv, Lost, Deaf, Collide}
+use Rattle.trace_lines.specs.declared.line.What.TheVariants.{Send, Recv, Lost, Deaf, Collide, Boots}
 use Rattle.radio_packet.specs.declared.fate.Fate.{Fate}
 
 -- a line: its first word, each other word after a space, and a line feed
@@ -61,6 +61,7 @@ words_of t (Recv from number v) = codes "recv" ∷ decimal from ∷ decimal numb
 words_of t (Lost from number) = codes "lost" ∷ decimal from ∷ decimal number ∷ []
 words_of t (Deaf from number) = codes "deaf" ∷ decimal from ∷ decimal number ∷ []
 words_of t (Collide from number) = codes "collide" ∷ decimal from ∷ decimal number ∷ []
+words_of t Boots = codes "boots" ∷ []
 
 -- the moment at which a copy arrives, or `lost`
 abbrev pub arrival_word : Option ℕ → List ℕ

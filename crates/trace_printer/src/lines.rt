@@ -191,13 +191,18 @@ fn put_print(page: &mut Page, at: u64, process: &str, value: u16) -> Result<(), 
     Ok(())
 }
 
-fn put_halt(page: &mut Page, at: u64) -> Result<(), AllocError>
-    ensures appended { OnOk result (page.new ≡ page.old ++ line_of (decimal at) (codes "halt" ∷ [])) }
+/// Appends a line with a keyword alone.
+fn put_keyword(page: &mut Page, at: u64, keyword: &str) -> Result<(), AllocError>
+    ensures appended { OnOk result (page.new ≡ page.old ++ line_of (decimal at) (keyword.now ∷ [])) }
 {
-    make_room(&mut page.bytes, page.len, LINE)?;
+    make_room(
+        &mut page.bytes,
+        page.len,
+        LINE.saturating_add(keyword.len()),
+    )?;
     let room = page.bytes.as_mut_slice();
     let end = put_number(room, page.len, at);
-    let end = put_spaced(room, end, "halt");
+    let end = put_spaced(room, end, keyword);
     page.len = put_byte(room, end, b'\n');
     Ok(())
 }
@@ -246,12 +251,13 @@ pub fn put_trace_line(page: &mut Page, program: &Program, line: &Line) -> Result
             put_print(page, at, process_word(program, process), value)
         }
         What::Busy(process) => put_named(page, at, "busy", process_word(program, process)),
-        What::Halt => put_halt(page, at),
+        What::Halt => put_keyword(page, at, "halt"),
         What::Send(number, value) => put_numbers(page, at, "send", number, u64::from(value)),
         What::Recv(from, number, value) => put_recv(page, at, from, number, value),
         What::Lost(from, number) => put_numbers(page, at, "lost", u64::from(from), number),
         What::Deaf(from, number) => put_numbers(page, at, "deaf", u64::from(from), number),
         What::Collide(from, number) => { put_numbers(page, at, "collide", u64::from(from), number) }
+        What::Boots => put_keyword(page, at, "boots"),
     }
 }
 

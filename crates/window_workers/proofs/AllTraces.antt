@@ -22,14 +22,14 @@ use Rattle.window_laws.proofs.Lists.{every_weaker}
 use Rattle.window_laws.proofs.Order.{sorted_permutes}
 use Rattle.copy_inbox.specs.Handles.{TakerView}
 use Rattle.copy_exchange.specs.Takers.{taken_by, gathered_by}
-use Rattle.worker_cut.specs.Crossed.{is_own, is_to}
-use Rattle.worker_cut.proofs.Counts.{IsHad, by_worker, total}
-use Rattle.worker_cut.proofs.Windows.{at_the_end, coming, receivers}
+use Rattle.copy_exchange.specs.Crossed.{is_own, is_to}
+use Rattle.copy_exchange.proofs.Counts.{IsHad, by_worker, total}
+use Rattle.copy_exchange.proofs.CutWindows.{at_the_end, coming, receivers}
 use Rattle.worker_window.specs.declared.share.Share.{Share}
-use Rattle.worker_window.specs.declared.share.Ended.{Ended}
+use Rattle.worker_window.specs.declared.share.EndedShare.{EndedShare}
 use Rattle.worker_window.specs.Ended.{TellsAtEnd}
 use Rattle.window_workers.specs.declared.group.WorkerGroup.{WorkerGroup}
-use Rattle.window_workers.specs.WorkerGroup.{IsAt, IsWorkerAt}
+use Rattle.window_workers.specs.WorkerGroup.{WorkersAreAt, IsWorkerAt}
 use Rattle.window_workers.proofs.Lookups.{there, inside, read, beside, as_long, none_of, one_of}
 use Rattle.window_workers.proofs.Step.{own_by, some_worker}
 use Rattle.mote_net.specs.Report.{trace_lines_in}
@@ -49,12 +49,12 @@ nobody owners s i h = ap (λ o. option_map_or (λ w. eqb w i) o false) (beyond o
 not_mine : (owners : List ℕ) (s w i : ℕ) → slice_get owners s ≡ Some w → (i ≡ w → ⊥) → is_own owners i s ≡ false
 not_mine owners s w i e ne = ap (λ o. option_map_or (λ w. eqb w i) o false) e ∙ ne_eqb w i (λ q. ne (sym q))
 
-module _ (n : NetModel) (fine : RunsForward (system_of n)) (owners : List ℕ) (group : WorkerGroup) (at : IsAt n owners (suc n.end) group) (ended : List Ended) (ends : AllZip TellsWhatItKept group.shares.items ended) where
+module _ (n : NetModel) (fine : RunsForward (system_of n)) (owners : List ℕ) (group : WorkerGroup) (at : WorkersAreAt n owners (suc n.end) group) (ended : List EndedShare) (ends : AllZip TellsWhatItKept group.shares.items ended) where
   abbrev workers : ℕ
   workers = length group.inboxes.items
 
   -- one worker at the end
-  record Piece (v : ℕ) (one : Ended) : Type 0 where
+  record Piece (v : ℕ) (one : EndedShare) : Type 0 where
     share : Share
     taker : TakerView
     taker_at : slice_get group.takers.items v ≡ Some taker
@@ -67,7 +67,7 @@ module _ (n : NetModel) (fine : RunsForward (system_of n)) (owners : List ℕ) (
   pub takers_long : length group.takers.items ≡ workers
   takers_long = as_long _ group.inboxes.items group.takers.items at.settled
 
-  piece : (v : ℕ) (one : Ended) → slice_get ended v ≡ Some one → Piece v one
+  piece : (v : ℕ) (one : EndedShare) → slice_get ended v ≡ Some one → Piece v one
   piece v one e =
       let h : v < workers = subst (λ l. v < l) ended_long (inside ended v one e) in
       let s = there group.shares.items v (subst (λ l. v < l) (sym at.shares) h) in
@@ -89,10 +89,10 @@ module _ (n : NetModel) (fine : RunsForward (system_of n)) (owners : List ℕ) (
   unfolding system_of
   is_joined s = of_case (cases_Bool (ltb s (length n.motes)))
     where
-      of_one : (i : ℕ) (x : Ended) → slice_get ended i ≡ Some x → filter (is_sent_by s) (packets_in x.log.items) ≡ cond (is_own owners i s) (at.motes s).sends []
+      of_one : (i : ℕ) (x : EndedShare) → slice_get ended i ≡ Some x → filter (is_sent_by s) (packets_in x.log.items) ≡ cond (is_own owners i s) (at.motes s).sends []
       of_one i x e = (piece i x e).tells.log s
 
-      foreign : (i : ℕ) (x : Ended) → slice_get ended i ≡ Some x → is_own owners i s ≡ false → filter (is_sent_by s) (packets_in x.log.items) ≡ []
+      foreign : (i : ℕ) (x : EndedShare) → slice_get ended i ≡ Some x → is_own owners i s ≡ false → filter (is_sent_by s) (packets_in x.log.items) ≡ []
       foreign i x e f = of_one i x e ∙ (rw f refl)
 
       of_case : (ltb s (length n.motes) ≡ true) ⊎ (ltb s (length n.motes) ≡ false) → filter (is_sent_by s) (logs_of ended) ≡ sends_by (system_of n) at.motes s
@@ -101,25 +101,25 @@ module _ (n : NetModel) (fine : RunsForward (system_of n)) (owners : List ℕ) (
           let o = there ended w.0 (subst (λ l. w.0 < l) (sym ended_long) w.2) in
           let mine = own_by owners w.0 s w.1 in
           rw t (
-          one_of (is_sent_by s) (λ (x : Ended). packets_in x.log.items) ended w.0 o.0 o.1 (λ i x e ne. foreign i x e (not_mine owners s w.0 i w.1 ne))
+          one_of (is_sent_by s) (λ (x : EndedShare). packets_in x.log.items) ended w.0 o.0 o.1 (λ i x e ne. foreign i x e (not_mine owners s w.0 i w.1 ne))
           ∙ (of_one w.0 o.0 o.1 ∙ (rw mine refl)))
-      of_case (inr t) = rw t (none_of (is_sent_by s) (λ (x : Ended). packets_in x.log.items) ended (λ i x e. foreign i x e (nobody owners s i (subst (λ l. l ≤ s) (sym at.cut.len) (ltb-false s (length n.motes) t)))))
+      of_case (inr t) = rw t (none_of (is_sent_by s) (λ (x : EndedShare). packets_in x.log.items) ended (λ i x e. foreign i x e (nobody owners s i (subst (λ l. l ≤ s) (sym at.cut.len) (ltb-false s (length n.motes) t)))))
 
   pub is_report : IsReport (system_of n) n.end (map (λ number. (at.motes number).lines) (up_to (system_of n).motes)) (as_log (logs_of ended)) (length (coming (system_of n) fine (suc n.end) at.motes))
   is_report = at_the_end (system_of n) fine n.end at.motes at.led (logs_of ended) is_joined
 
   pub all_fates : HaveFates n.radio (log_lines_of ended)
-  all_fates = every_flat_map _ (λ (one : Ended). one.log.items) ended (each_from ended (λ v one e. (piece v one e).tells.fates))
+  all_fates = every_flat_map _ (λ (one : EndedShare). one.log.items) ended (each_from ended (λ v one e. (piece v one e).tells.fates))
     where
-      each_from : (xs : List Ended) → ((i : ℕ) (x : Ended) → slice_get xs i ≡ Some x → HaveFates n.radio x.log.items) → Each (λ (one : Ended). HaveFates n.radio one.log.items) xs
+      each_from : (xs : List EndedShare) → ((i : ℕ) (x : EndedShare) → slice_get xs i ≡ Some x → HaveFates n.radio x.log.items) → Each (λ (one : EndedShare). HaveFates n.radio one.log.items) xs
       each_from [] h = tt
       each_from (x ∷ xs) h = (h 0 x refl, each_from xs (λ i y e. h (suc i) y e))
 
   -- ---- traces
-  pub all_places : Each (λ (one : Ended). length one.traces.items ≡ length owners) ended
+  pub all_places : Each (λ (one : EndedShare). length one.traces.items ≡ length owners) ended
   all_places = each_from ended (λ v one e. (piece v one e).tells.traces_kept ∙ sym at.cut.len)
     where
-      each_from : (xs : List Ended) → ((i : ℕ) (x : Ended) → slice_get xs i ≡ Some x → length x.traces.items ≡ length owners) → Each (λ (one : Ended). length one.traces.items ≡ length owners) xs
+      each_from : (xs : List EndedShare) → ((i : ℕ) (x : EndedShare) → slice_get xs i ≡ Some x → length x.traces.items ≡ length owners) → Each (λ (one : EndedShare). length one.traces.items ≡ length owners) xs
       each_from [] h = tt
       each_from (x ∷ xs) h = (h 0 x refl, each_from xs (λ i y e. h (suc i) y e))
 
@@ -138,7 +138,7 @@ module _ (n : NetModel) (fine : RunsForward (system_of n)) (owners : List ℕ) (
           let matches : get_or ended w.0 o.0 ≡ o.0 = read ended w.0 o.0 o.0 o.1 in
           ap trace_lines_in (is.each k o.0 d low)
           ∙ (ap (λ v. trace_lines_in (get_or (get_or ended v o.0).traces.items k d)) its
-          ∙ (ap (λ (x : Ended). trace_lines_in (get_or x.traces.items k d)) matches ∙ (piece w.0 o.0 o.1).tells.traces k (own_by owners w.0 k w.1) d))
+          ∙ (ap (λ (x : EndedShare). trace_lines_in (get_or x.traces.items k d)) matches ∙ (piece w.0 o.0 o.1).tells.traces k (own_by owners w.0 k w.1) d))
 
   -- ---- copies
   all_had : Each (λ copy. IsHad owners workers copy.to) (coming (system_of n) fine (suc n.end) at.motes)
@@ -153,15 +153,15 @@ module _ (n : NetModel) (fine : RunsForward (system_of n)) (owners : List ℕ) (
       )
 
   pub left_is : (left : ℕ) (pairs : List Pair) → length pairs ≡ workers → ((v : ℕ) (pair : Pair) → slice_get pairs v ≡ Some pair → slice_get group.takers.items v ≡ Some pair.1)
-      → sum_by (λ (one : Ended). one.left) ended + sum_by (λ (pair : Pair). length (gathered_by pair.1)) pairs ≡ left + sum_by (λ (pair : Pair). length (taken_by pair.1)) pairs
+      → sum_by (λ (one : EndedShare). one.left) ended + sum_by (λ (pair : Pair). length (gathered_by pair.1)) pairs ≡ left + sum_by (λ (pair : Pair). length (taken_by pair.1)) pairs
       → left ≡ length (coming (system_of n) fine (suc n.end) at.motes)
   left_is left pairs long takers sums =
       let all = coming (system_of n) fine (suc n.end) at.motes in
-      let matches = two_sums (λ (one : Ended). one.left) (λ (pair : Pair). length (gathered_by pair.1)) (λ (pair : Pair). length (taken_by pair.1)) (λ v. length (filter (is_to owners v) all)) ended pairs (long ∙ sym ended_long) each in
+      let matches = two_sums (λ (one : EndedShare). one.left) (λ (pair : Pair). length (gathered_by pair.1)) (λ (pair : Pair). length (taken_by pair.1)) (λ v. length (filter (is_to owners v) all)) ended pairs (long ∙ sym ended_long) each in
       let count : total (λ v. length (filter (is_to owners v) all)) (length ended) ≡ length all = ap (total (λ v. length (filter (is_to owners v) all))) ended_long ∙ by_worker owners workers all all_had in
       omega arith
     where
-      each : (v : ℕ) (one : Ended) (pair : Pair) → slice_get ended v ≡ Some one → slice_get pairs v ≡ Some pair
+      each : (v : ℕ) (one : EndedShare) (pair : Pair) → slice_get ended v ≡ Some one → slice_get pairs v ≡ Some pair
           → one.left + length (gathered_by pair.1) ≡ length (filter (is_to owners v) (coming (system_of n) fine (suc n.end) at.motes)) + length (taken_by pair.1)
       each v one pair e f =
           let p = piece v one e in

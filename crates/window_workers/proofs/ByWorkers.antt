@@ -22,11 +22,11 @@ use Rattle.window_laws.proofs.Pending.{pending_left}
 use Rattle.window_laws.proofs.Unique.{run_is_one}
 use Rattle.copy_inbox.specs.Handles.{TakerView}
 use Rattle.copy_exchange.specs.Takers.{taken_by, gathered_by}
-use Rattle.worker_cut.proofs.CrossesTo.{crossed_once}
-use Rattle.worker_cut.proofs.Windows.{coming, coming_pending, senders}
-use Rattle.worker_window.specs.declared.share.Ended.{Ended}
+use Rattle.copy_exchange.proofs.CrossesTo.{crossed_once}
+use Rattle.copy_exchange.proofs.CutWindows.{coming, coming_pending, senders}
+use Rattle.worker_window.specs.declared.share.EndedShare.{EndedShare}
 use Rattle.window_workers.specs.declared.group.WorkerGroup.{WorkerGroup}
-use Rattle.window_workers.specs.WorkerGroup.{IsAt, IsWorkerAt}
+use Rattle.window_workers.specs.WorkerGroup.{WorkersAreAt, IsWorkerAt}
 use Rattle.window_workers.proofs.Lookups.{there, read, zip_inside, zip_long}
 use Rattle.mote_net.specs.declared.report.Report.{Report}
 use Rattle.mote_net.specs.Report.{Packet, ReportModel, trace_lines_in, line_model, report_of}
@@ -34,7 +34,7 @@ use Rattle.window_workers.specs.Crossed.{Pair, logged_packets, CrossedTo, AllCro
 use Rattle.serial_run.specs.NetRun.{packet_with_fates, IsReportOf}
 use Rattle.window_workers.specs.Over.{TellsWhatItKept, logs_of, IsLogOf, AreTracesOf}
 use Rattle.serial_run.proofs.ByWindows.{windows_commute}
-use Rattle.serial_run.proofs.Handed.{traces_hand_on}
+use Rattle.serial_run.proofs.Handed.{one_life, traces_hand_on}
 use Rattle.window_workers.proofs.AllTraces.{is_joined, is_report, left_is, takers_long, traces_are}
 use Rattle.window_workers.proofs.Pairs.{each_mapped, second_at}
 use Rattle.serial_run.proofs.Stamps.{sent_packets}
@@ -43,7 +43,7 @@ use Rattle.window_workers.proofs.Left.{taken_by_end}
 abbrev reported_of : List (List Line) → List Packet → ℕ → ReportModel
 reported_of traces log left = record { traces = traces; log = log; left = left }
 
-module _ (n : NetModel) (fault : medium_fault n.radio ≡ None) (placed : length n.radio.places ≡ length n.motes) (owners : List ℕ) (group : WorkerGroup) (at : IsAt n owners (suc n.end) group) (ended : List Ended) (ends : AllZip TellsWhatItKept group.shares.items ended) where
+module _ (n : NetModel) (fault : medium_fault n.radio ≡ None) (placed : length n.radio.places ≡ length n.motes) (owners : List ℕ) (group : WorkerGroup) (at : WorkersAreAt n owners (suc n.end) group) (ended : List EndedShare) (ends : AllZip TellsWhatItKept group.shares.items ended) where
   fine : RunsForward (system_of n)
   fine = system_is n fault placed
 
@@ -73,7 +73,7 @@ module _ (n : NetModel) (fault : medium_fault n.radio ≡ None) (placed : length
 
   -- the joined results of the workers are the report of the net
   pub reported_equals : (r : Report) → AreTracesOf owners ended r.traces.items → IsLogOf n (logs_of ended) (map line_model r.medium.items)
-      → sum_by (λ (one : Ended). one.left) ended + sum_by (λ (pair : Pair). length (gathered_by pair.1)) (zip group.inboxes.items group.takers.items)
+      → sum_by (λ (one : EndedShare). one.left) ended + sum_by (λ (pair : Pair). length (gathered_by pair.1)) (zip group.inboxes.items group.takers.items)
       ≡ r.left + sum_by (λ (pair : Pair). length (taken_by pair.1)) (zip group.inboxes.items group.takers.items)
       → IsReportOf n (report_of r)
   reported_equals r traces log sums =
@@ -116,4 +116,4 @@ pub all_hand_on : (n : NetModel) (r : Report) → IsReportOf n (report_of r) →
 all_hand_on n r report =
     All-from_recursion (λ (v : Vec Line Global). IsInOrder v.items) r.traces.items
     (each_mapped IsInOrder trace_lines_in r.traces.items (subst (Each IsInOrder) (sym (ap (λ (t : ReportModel). t.traces) report.matches)) (every_map IsInOrder report.last.traces (up_to (length n.motes))
-    (every_weaker (λ k. k < length n.motes) (λ k. IsInOrder (report.last.traces k)) (λ k h. traces_hand_on [] n (report_of r) report k h) (up_to (length n.motes)) (below_all (length n.motes))))))
+    (every_weaker (λ k. k < length n.motes) (λ k. IsInOrder (report.last.traces k)) (λ k h. one_life k _ (traces_hand_on [] n (report_of r) report k h)) (up_to (length n.motes)) (below_all (length n.motes))))))

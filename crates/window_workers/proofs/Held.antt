@@ -25,12 +25,12 @@ use Rattle.window_laws.proofs.Serial.{Meets, is_ahead, meets_first, mix, mix_fro
 use Rattle.window_laws.proofs.Unique.{run_is_one}
 use Rattle.net_agenda.specs.NetSystem.{system_of}
 use Rattle.copy_inbox.specs.Handles.{TakerView}
-use Rattle.worker_cut.specs.Crossed.{is_to}
-use Rattle.worker_cut.proofs.Counts.{IsHad}
-use Rattle.worker_cut.proofs.Windows.{LedTo, coming, coming_pending, is_history, receivers}
+use Rattle.copy_exchange.specs.Crossed.{is_to}
+use Rattle.copy_exchange.proofs.Counts.{IsHad}
+use Rattle.copy_exchange.proofs.CutWindows.{LedTo, coming, coming_pending, is_history, receivers}
 use Rattle.worker_window.specs.declared.share.Share.{Share}
 use Rattle.window_workers.specs.declared.group.WorkerGroup.{WorkerGroup}
-use Rattle.window_workers.specs.WorkerGroup.{IsAt}
+use Rattle.window_workers.specs.WorkerGroup.{WorkersAreAt}
 use Rattle.window_workers.proofs.Step.{some_worker}
 use Rattle.window_workers.specs.Held.{AreWith, AgendaIsHeld}
 use Rattle.window_workers.proofs.Waiting.{same_copies, waiting, gathered_is, to_come_is}
@@ -108,7 +108,7 @@ module _ (owners : List ℕ) where
       is_first : (copy : RadioCopy) → IsHad owners workers copy.to → is_to_first workers copy ≡ true
       is_first copy h = ap (λ o. option_map_or (λ w. ltb w workers) o false) h.1 ∙ lt-ltb h.0 workers h.2
 
-module _ (n : NetModel) (fine : RunsForward (system_of n)) (owners : List ℕ) (end : ℕ) (group : WorkerGroup) (at : IsAt n owners (suc end) group) where
+module _ (n : NetModel) (fine : RunsForward (system_of n)) (owners : List ℕ) (end : ℕ) (group : WorkerGroup) (at : WorkersAreAt n owners (suc end) group) where
   abbrev workers : ℕ
   workers = length group.inboxes.items
 

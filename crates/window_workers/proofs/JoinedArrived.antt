@@ -9,8 +9,8 @@ use Rattle.copy_exchange.specs.Endpoints.{Collects}
 use Rattle.window_laws.specs.Windows.{is_from_sender}
 use Rattle.copy_exchange.specs.Takers.{SameOfEach, taken_by, gathered_by}
 use Rattle.net_agenda.specs.NetSystem.{system_of}
-use Rattle.worker_cut.specs.Crossed.{is_to, is_own}
-use Rattle.worker_cut.specs.Laws.{GatheredCopies}
+use Rattle.copy_exchange.specs.Crossed.{is_to, is_own}
+use Rattle.copy_exchange.specs.CutLaws.{GatheredCopies}
 use Rattle.worker_window.specs.Share.{Motes}
 use Rattle.window_laws.proofs.Lists.{every_weaker, every_both, every_passes}
 use Rattle.window_workers.proofs.Sent.{every_of_each}

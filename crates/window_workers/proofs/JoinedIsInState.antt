@@ -11,12 +11,12 @@ use Rattle.window_laws.proofs.Lists.{every_append, every_weaker}
 use Rattle.net_agenda.specs.NetSystem.{system_of}
 use Rattle.copy_inbox.specs.Handles.{TakerView}
 use Rattle.copy_exchange.specs.Takers.{taken_by}
-use Rattle.worker_cut.specs.Crossed.{is_own, is_to, copies_seen}
-use Rattle.worker_cut.proofs.Windows.{idle, receivers}
+use Rattle.copy_exchange.specs.Crossed.{is_own, is_to, copies_seen}
+use Rattle.copy_exchange.proofs.CutWindows.{idle, receivers}
 use Rattle.worker_window.specs.declared.share.Share.{Share}
 use Rattle.worker_window.specs.Share.{IsWholeShare, is_to_come}
 use Rattle.window_workers.specs.declared.group.WorkerGroup.{WorkerGroup}
-use Rattle.window_workers.specs.WorkerGroup.{IsAt, IsWorkerAt}
+use Rattle.window_workers.specs.WorkerGroup.{WorkersAreAt, IsWorkerAt}
 use Rattle.window_workers.specs.JoinedNext.{IsNextOfAll}
 use Rattle.worker_window.specs.Next.{TellsNext}
 use Rattle.window_workers.specs.WorkerGroup.{IsNotBefore}
@@ -56,7 +56,7 @@ by_some : (workers : ℕ) (A : ℕ → RadioCopy → Type 0) (Q : RadioCopy → 
 by_some workers A Q [] h k = tt
 by_some workers A Q (x ∷ xs) h k = ((h k.0.0 k.0.1).0 k.0.2, by_some workers A Q xs (λ v l. (h v l).1) k.1)
 
-module _ (n : NetModel) (fine : RunsForward (system_of n)) (owners : List ℕ) (from moment : ℕ) (group : WorkerGroup) (next : Option ℕ) (at : IsAt n owners from group) (is : IsNextOfAll group.first_out group.shares.items next) (le : from ≤ moment) (wakes : NoneBefore moment next) where
+module _ (n : NetModel) (fine : RunsForward (system_of n)) (owners : List ℕ) (from moment : ℕ) (group : WorkerGroup) (next : Option ℕ) (at : WorkersAreAt n owners from group) (is : IsNextOfAll group.first_out group.shares.items next) (le : from ≤ moment) (wakes : NoneBefore moment next) where
   abbrev workers : ℕ
   workers = length group.inboxes.items
 
@@ -126,7 +126,7 @@ module _ (n : NetModel) (fine : RunsForward (system_of n)) (owners : List ℕ) (
       by_some workers (λ v (c : RadioCopy). is_own owners v c.to ≡ true) (λ (c : RadioCopy). from ≤ c.at → moment ≤ c.at) _ (λ v h. no_copy_to s v (piece v h))
       (every_weaker (λ (c : RadioCopy). c.to < length n.motes) (λ (c : RadioCopy). (v : ℕ) × (v < workers) × (is_own owners v c.to ≡ true)) (λ c h. let w = some_worker (length n.motes) workers owners at.cut c.to h in (w.0, w.2, own_by owners w.0 c.to w.1)) _ (receivers (system_of n) fine at.motes s))
 
-  pub in_state : IsAt n owners moment group
+  pub in_state : WorkersAreAt n owners moment group
   unfolding system_of
   in_state = record {
     motes = at.motes;
@@ -143,7 +143,7 @@ module _ (n : NetModel) (fine : RunsForward (system_of n)) (owners : List ℕ) (
           subst (λ x. IsWorkerAt n owners moment at.motes group.first_out v x (get_or group.takers.items v taker)) (sym (read group.shares.items v p.share share p.share_at))
           (subst (λ x. IsWorkerAt n owners moment at.motes group.first_out v p.share x) (sym (read group.takers.items v p.taker taker p.taker_at)) (record { keeps = keeps_on v p; gathered = p.here.gathered; waits = p.here.waits }))
 
-module _ (n : NetModel) (owners : List ℕ) (from : ℕ) (group : WorkerGroup) (next : Option ℕ) (at : IsAt n owners from group) (is : IsNextOfAll group.first_out group.shares.items next) where
+module _ (n : NetModel) (owners : List ℕ) (from : ℕ) (group : WorkerGroup) (next : Option ℕ) (at : WorkersAreAt n owners from group) (is : IsNextOfAll group.first_out group.shares.items next) where
   takers_here : length group.takers.items ≡ length group.inboxes.items
   takers_here = as_long _ group.inboxes.items group.takers.items at.settled
 

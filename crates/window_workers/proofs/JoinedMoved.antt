@@ -15,14 +15,14 @@ use Rattle.copy_inbox.specs.Handles.{TakerView}
 use Rattle.copy_exchange.specs.Endpoints.{delivered, delivered_to}
 use Rattle.copy_exchange.specs.Takers.{copies_gathered, taken_by, gathered_by}
 use Rattle.copy_inbox.specs.Items.{copies_of}
-use Rattle.worker_cut.specs.Crossed.{is_own, is_to}
-use Rattle.worker_cut.specs.Laws.{GatheredCopies}
+use Rattle.copy_exchange.specs.Crossed.{is_own, is_to}
+use Rattle.copy_exchange.specs.CutLaws.{GatheredCopies}
 use Rattle.worker_window.specs.declared.share.Share.{Share}
 use Rattle.worker_window.specs.Share.{Motes, IsWholeShare}
 use Rattle.worker_window.specs.Window.{RunsOwnMote, IsOutgoing, outgoing_by}
 use Rattle.window_workers.specs.declared.group.WorkerGroup.{WorkerGroup}
 use Rattle.window_workers.specs.declared.worker.Worker.{Worker}
-use Rattle.window_workers.specs.WorkerGroup.{IsAt, IsWorkerAt}
+use Rattle.window_workers.specs.WorkerGroup.{WorkersAreAt, IsWorkerAt}
 use Rattle.window_workers.specs.Worker.{make_worker}
 use Rattle.window_workers.specs.JoinedLaws.{GroupRunsUntil}
 use Rattle.window_workers.specs.WorkerGroup.{IsCut, IsNotBefore}
@@ -42,7 +42,7 @@ record OnRecord : Type 0 where
   gathered : List RadioCopy
   outgoing : List RadioCopy
 
-module _ (n : NetModel) (fine : RunsForward (system_of n)) (owners : List ℕ) (from until : ℕ) (old new : WorkerGroup) (at : IsAt n owners from old) (up : from < until) (short : until ≤ from + (system_of n).lookahead) (all : GroupRunsUntil n owners until old new) where
+module _ (n : NetModel) (fine : RunsForward (system_of n)) (owners : List ℕ) (from until : ℕ) (old new : WorkerGroup) (at : WorkersAreAt n owners from old) (up : from < until) (short : until ≤ from + (system_of n).lookahead) (all : GroupRunsUntil n owners until old new) where
   abbrev workers : ℕ
   workers = length old.inboxes.items
 
@@ -219,7 +219,7 @@ module _ (n : NetModel) (fine : RunsForward (system_of n)) (owners : List ℕ) (
       out_later v s (Some u) e =
           each_of_every _ (filter (is_to owners v) (outgoing u)) (is_from_sender s) (each_of_every _ (outgoing u) (is_to owners v) (first_out u (each_at (λ w. w < workers) owners s u at.cut.there e)))
 
-  pub moved : IsAt n owners until new
+  pub moved : WorkersAreAt n owners until new
   unfolding outgoing
   moved = record {
     motes = after;

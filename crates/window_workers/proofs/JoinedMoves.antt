@@ -11,10 +11,10 @@ use Rattle.copy_inbox.specs.Items.{copies_of}
 use Rattle.worker_window.specs.declared.share.Share.{Share}
 use Rattle.worker_window.specs.Share.{IsWholeShare}
 use Rattle.worker_window.specs.Window.{RunsWindow}
-use Rattle.worker_cut.specs.Crossed.{IsExpected}
+use Rattle.copy_exchange.specs.Crossed.{IsExpected}
 use Rattle.window_workers.specs.declared.group.WorkerGroup.{WorkerGroup}
 use Rattle.window_workers.specs.declared.worker.Worker.{Worker}
-use Rattle.window_workers.specs.WorkerGroup.{IsAt, IsWorkerAt}
+use Rattle.window_workers.specs.WorkerGroup.{WorkersAreAt, IsWorkerAt}
 use Rattle.window_workers.specs.Worker.{make_worker}
 use Rattle.window_workers.specs.JoinedLaws.{GroupRunsUntil}
 use Rattle.window_workers.specs.JoinedWorker.{RunsWorker}
@@ -22,7 +22,7 @@ use Rattle.window_workers.proofs.Lookups.{there, read, mapped, paired, beside, a
 use Rattle.window_workers.proofs.Numbered.{numbered}
 use Rattle.window_workers.proofs.JoinedReady.{arrived_come}
 
-module _ (n : NetModel) (owners : List ℕ) (from until : ℕ) (old new : WorkerGroup) (at : IsAt n owners from old) (all : GroupRunsUntil n owners until old new) where
+module _ (n : NetModel) (owners : List ℕ) (from until : ℕ) (old new : WorkerGroup) (at : WorkersAreAt n owners from old) (all : GroupRunsUntil n owners until old new) where
   -- one worker in the window: its old state and its new one
   pub record Piece (v : ℕ) : Type 0 where
     pub share : Share

@@ -16,9 +16,9 @@ use Rattle.copy_exchange.specs.Takers.{copies_gathered, taken_by, gathered_by}
 use Rattle.copy_exchange.specs.Inboxes.{HasNoMarks}
 use Rattle.worker_window.specs.declared.share.Share.{Share}
 use Rattle.worker_window.specs.Share.{Motes}
-use Rattle.worker_cut.specs.Crossed.{is_own, IsExpected}
+use Rattle.copy_exchange.specs.Crossed.{is_own, IsExpected}
 use Rattle.window_workers.specs.declared.group.WorkerGroup.{WorkerGroup}
-use Rattle.window_workers.specs.WorkerGroup.{IsAt, IsWorkerAt}
+use Rattle.window_workers.specs.WorkerGroup.{WorkersAreAt, IsWorkerAt}
 use Rattle.window_workers.specs.Worker.{make_worker}
 use Rattle.window_workers.specs.Threads.{AllMade}
 use Rattle.window_workers.specs.JoinedWorker.{IsReadyWorker}
@@ -63,7 +63,7 @@ module _ (n : NetModel) (owners : List ℕ) (from : ℕ) (motes : Motes) (first 
   pub arrived_come : Each (IsExpected owners v from) arrived
   arrived_come = every_weaker _ _ (λ c g. record { to = g.0.0; sender = g.0.1; later = g.1 }) _ (every_both (λ (c : RadioCopy). (is_own owners v c.to ≡ true) × (is_own owners v c.sender ≡ false)) (λ (c : RadioCopy). from ≤ c.at) arrived all_foreign all_later)
 
-module _ (n : NetModel) (owners : List ℕ) (from until : ℕ) (old : WorkerGroup) (at : IsAt n owners from old) (up : from ≤ until) (early : until ≤ 2 ^ 40) (plain : Each HasNoMarks old.takers.items) where
+module _ (n : NetModel) (owners : List ℕ) (from until : ℕ) (old : WorkerGroup) (at : WorkersAreAt n owners from old) (up : from ≤ until) (early : until ≤ 2 ^ 40) (plain : Each HasNoMarks old.takers.items) where
   one_ready : (endpoints : List Endpoint) → Together old.inboxes.items endpoints → AllZip StartsAs old.takers.items endpoints → (v : ℕ) (s : Share) (c : Endpoint) → slice_get old.shares.items v ≡ Some s → slice_get endpoints v ≡ Some c → IsReadyWorker n owners old.inboxes.items until (make_worker (s, c))
   one_ready endpoints together starts v s c e f =
       let h : v < length old.inboxes.items = subst (λ l. v < l) at.shares (inside old.shares.items v s e) in

@@ -13,11 +13,11 @@ use Rattle.copy_exchange.specs.Endpoints.{StartsAs, Returns, AllReturn}
 use Rattle.window_laws.specs.Windows.{is_from_sender}
 use Rattle.copy_exchange.proofs.Windows.{returns_from}
 use Rattle.worker_window.specs.declared.share.Share.{Share}
-use Rattle.worker_cut.specs.Crossed.{is_own}
+use Rattle.copy_exchange.specs.Crossed.{is_own}
 use Rattle.worker_window.specs.Window.{IsOutgoing}
 use Rattle.window_workers.specs.declared.group.WorkerGroup.{WorkerGroup}
 use Rattle.window_workers.specs.declared.worker.Worker.{Worker}
-use Rattle.window_workers.specs.WorkerGroup.{IsAt}
+use Rattle.window_workers.specs.WorkerGroup.{WorkersAreAt}
 use Rattle.window_workers.specs.Threads.{AreMade, HaveWorked}
 use Rattle.window_workers.specs.Worker.{make_worker}
 use Rattle.window_workers.specs.JoinedWorker.{RunsWorker}
@@ -55,7 +55,7 @@ module _ (n : NetModel) (owners : List ℕ) (until : ℕ) (inboxes : List InboxI
   all_back (t ∷ ts) (s ∷ ss) (c ∷ cs) [] starts long ran = absurd ran
   all_back (t ∷ ts) (s ∷ ss) (c ∷ cs) (d ∷ ds) starts long ran = (one_back t s c d starts.0 ran.0, all_back ts ss cs ds starts.1 (omega arith) ran.1)
 
-module _ (n : NetModel) (owners : List ℕ) (from until : ℕ) (old : WorkerGroup) (at : IsAt n owners from old) (done : List Worker)
+module _ (n : NetModel) (owners : List ℕ) (from until : ℕ) (old : WorkerGroup) (at : WorkersAreAt n owners from old) (done : List Worker)
     (worked : HaveWorked old.inboxes.items old.takers.items old.shares.items (RunsWorker n owners old.inboxes.items until) done) where
   abbrev made : AreMade old.inboxes.items old.takers.items old.shares.items worked.first
   made = worked.are_made

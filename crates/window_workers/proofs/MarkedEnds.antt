@@ -7,7 +7,7 @@ use Rattle.mote_net.specs.Net.{NetModel}
 use Rattle.window_laws.specs.Forward.{RunsForward}
 use Rattle.window_laws.specs.Windows.{first_mote, Windows, NoneBefore}
 use Rattle.net_agenda.specs.NetSystem.{system_of}
-use Rattle.worker_cut.specs.Crossed.{is_own, crossed}
+use Rattle.copy_exchange.specs.Crossed.{is_own, crossed}
 use Rattle.copy_inbox.specs.declared.rule.TakerState.{TakerState}
 use Rattle.copy_inbox.specs.Gathered.{Whole}
 use Rattle.copy_inbox.specs.Items.{copies_of, part, HasPrefix}
@@ -22,7 +22,7 @@ use Rattle.copy_exchange.proofs.Early.{copies_pushes}
 use Rattle.worker_window.specs.declared.share.Share.{Share}
 use Rattle.worker_window.specs.Share.{Motes, IsWholeShare}
 use Rattle.window_workers.specs.declared.group.WorkerGroup.{WorkerGroup}
-use Rattle.window_workers.specs.WorkerGroup.{IsAt, IsWorkerAt}
+use Rattle.window_workers.specs.WorkerGroup.{WorkersAreAt, IsWorkerAt}
 use Rattle.window_workers.proofs.Choose.{choose}
 use Rattle.window_workers.proofs.Lookups.{there, inside, read, same_found, each_at, each_from}
 use Rattle.window_workers.proofs.Same.{keeps_same}
@@ -32,7 +32,7 @@ use Rattle.window_workers.specs.MarkedAtEnd.{EndsMarked, EndAllMarked}
 use Rattle.copy_exchange.specs.Endpoints.{pushed_list}
 use Rattle.window_workers.specs.MarkedSenders.{AreSenders}
 use Rattle.window_workers.specs.MarkedWorkerHistory.{WorkerHistory, WorkerRunsWindows}
-use Rattle.window_workers.specs.MarkedAll.{AllRan, GatheredSenders, IsOfTakers}
+use Rattle.window_workers.specs.MarkedAll.{AllRan, GatheredSenders}
 use Rattle.window_workers.proofs.MarkedBounds.{at_the_end}
 use Rattle.window_workers.proofs.MarkedPairs.{not_other, pair, copies_from, copies_none}
 use Rattle.window_workers.proofs.MarkedSeen.{nobodys, sent_so_far, of_worker, of_nobody}
@@ -194,7 +194,7 @@ module _ (n : NetModel) (owners : List ℕ) (width windows : ℕ) (group : Worke
           subst (λ x. IsWorkerAt n owners (suc n.end) motes group.first_out v x (get_or group.takers.items v taker)) (sym (read group.shares.items v p.share share p.share_at))
           (subst (λ x. IsWorkerAt n owners (suc n.end) motes group.first_out v p.share x) (sym (read group.takers.items v p.taker taker p.taker_at)) at_worker)
 
-    pub all_at_end : IsAt n owners (suc n.end) group
+    pub all_at_end : WorkersAreAt n owners (suc n.end) group
     all_at_end = record {
       motes = motes;
       led = subst (λ t. Windows (system_of n) 0 t (first_mote (system_of n)) motes) at_last there_at_last.led;
@@ -213,5 +213,5 @@ module _ (n : NetModel) (owners : List ℕ) (width windows : ℕ) (group : Worke
         subst (λ (x : TakerView). Whole x.state.gathered x.state.taken) (same_found (slice_get group.takers.items v) p.taker t p.taker_at e) (whole_at v low))
 
 pub ends : (n : NetModel) → RunsForward (system_of n) → (owners : List ℕ) (width windows : ℕ) → width ≤ (system_of n).lookahead → AreWindows width n.end windows
-    → (group : WorkerGroup) → EndAllMarked n owners width windows group → IsAt n owners (suc n.end) group × Each (λ (t : TakerView). Whole t.state.gathered t.state.taken) group.takers.items
+    → (group : WorkerGroup) → EndAllMarked n owners width windows group → WorkersAreAt n owners (suc n.end) group × Each (λ (t : TakerView). Whole t.state.gathered t.state.taken) group.takers.items
 ends n fine owners width windows short are group all = (all_at_end n owners width windows group all fine short are, all_whole n owners width windows group all fine short are)

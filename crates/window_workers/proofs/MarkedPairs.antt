@@ -10,7 +10,7 @@ use Rattle.radio_packet.specs.declared.copy.RadioCopy.{RadioCopy}
 use Rattle.mote_net.specs.Net.{NetModel}
 use Rattle.window_laws.specs.Windows.{is_from_sender}
 use Rattle.window_laws.proofs.Lists.{filter_filter, filter_none, every_weaker}
-use Rattle.worker_cut.specs.Crossed.{is_own, is_to}
+use Rattle.copy_exchange.specs.Crossed.{is_own, is_to}
 use Rattle.copy_inbox.specs.Items.{copies_of, part, HasPrefix}
 use Rattle.copy_inbox.specs.Handles.{SenderView}
 use Rattle.copy_exchange.specs.Takers.{copies_in}

@@ -23,7 +23,7 @@ use Rattle.window_workers.proofs.Lookups.{same_found}
 use Rattle.window_workers.proofs.Numbered.{numbered}
 use Rattle.window_workers.proofs.Starts.{fresh_at}
 use Rattle.window_workers.specs.MarkedRun.{endpoints_of}
-use Rattle.window_workers.specs.MarkedThread.{IsFirst}
+use Rattle.window_workers.specs.MarkedThread.{IsBeforeFirstWindow}
 
 -- each worker has the endpoint that was made for it
 same_endpoints : (shares : List Share) (endpoints : List Endpoint) → length endpoints ≡ length shares
@@ -65,7 +65,7 @@ module _ (inboxes : List InboxId) (takers : List TakerView) (shares : List Share
   all_none_gathered = each_from (λ (c : Endpoint). c.taker.state.gathered ≡ []) made.endpoints none_gathered
 
   module _ (n : NetModel) (owners : List ℕ) (cut : IsCut (length n.motes) (length inboxes) owners) (first : AreFirst n owners (length inboxes) shares) (marked : Each (λ (taker : TakerView). taker.state.marked ≡ true) takers) where
-    one_ready : (v : ℕ) (s : Share) (c : Endpoint) → slice_get shares v ≡ Some s → slice_get made.endpoints v ≡ Some c → IsFirst n owners inboxes (make_worker (s, c))
+    one_ready : (v : ℕ) (s : Share) (c : Endpoint) → slice_get shares v ≡ Some s → slice_get made.endpoints v ≡ Some c → IsBeforeFirstWindow n owners inboxes (make_worker (s, c))
     one_ready v s c at_share at_endpoint =
         let low : v < length inboxes = subst (λ l. v < l) first.count (inside shares v s at_share) in
         let number : c.worker ≡ v = numbered (length inboxes) made.endpoints made.together.workers v low c at_endpoint in
@@ -81,8 +81,8 @@ module _ (inboxes : List InboxId) (takers : List TakerView) (shares : List Share
           none_pushed = each_at HasPushedNothing made.endpoints v c made.nothing at_endpoint;
         }
 
-    pub ready : Each (IsFirst n owners inboxes) workers
-    ready = subst (Each (IsFirst n owners inboxes)) (sym made.are) (each_zipped (IsFirst n owners inboxes) make_worker shares made.endpoints one_ready)
+    pub ready : Each (IsBeforeFirstWindow n owners inboxes) workers
+    ready = subst (Each (IsBeforeFirstWindow n owners inboxes)) (sym made.are) (each_zipped (IsBeforeFirstWindow n owners inboxes) make_worker shares made.endpoints one_ready)
 
   -- the endpoints of the workers are those that were made
   module _ (count : length shares ≡ length inboxes) where

@@ -20,7 +20,7 @@ use Rattle.copy_exchange.proofs.AfterWindow.{same_workers}
 use Rattle.copy_exchange.proofs.Open.{SendersOfOthers, are_senders, sender_of, sender_is}
 use Rattle.worker_window.specs.declared.share.Share.{Share}
 use Rattle.window_workers.specs.declared.group.WorkerGroup.{WorkerGroup}
-use Rattle.window_workers.specs.WorkerGroup.{IsAt}
+use Rattle.window_workers.specs.WorkerGroup.{WorkersAreAt}
 use Rattle.window_workers.specs.WorkerGroup.{IsCut}
 use Rattle.window_workers.proofs.Lookups.{there, read, mapped, beside, as_long}
 use Rattle.window_workers.proofs.Numbered.{numbered}
@@ -160,7 +160,7 @@ module _ (n : NetModel) (owners : List ℕ) (width : ℕ) (old new : WorkerGroup
 
 -- all workers are at the end, if no window was longer than the lookahead
 pub ended : (n : NetModel) → RunsForward (system_of n) → (owners : List ℕ) (width : ℕ) → 0 < width → width ≤ (system_of n).lookahead
-    → (old new : WorkerGroup) → IsCut (length n.motes) (length old.inboxes.items) owners → GroupRunsMarked n owners width old new → IsAt n owners (suc n.end) new × Each (λ (t : TakerView). Whole t.state.gathered t.state.taken) new.takers.items
+    → (old new : WorkerGroup) → IsCut (length n.motes) (length old.inboxes.items) owners → GroupRunsMarked n owners width old new → WorkersAreAt n owners (suc n.end) new × Each (λ (t : TakerView). Whole t.state.gathered t.state.taken) new.takers.items
 ended n fine owners width wide short old new cut ran =
     let cut_now : IsCut (length n.motes) (length new.inboxes.items) owners = subst (λ (l : List InboxId). IsCut (length n.motes) (length l) owners) (sym ran.inboxes) cut in
     ends n fine owners width (windows_of width n.end) short (are_windows width n.end wide) new (ends_marked n owners width old new cut_now ran)

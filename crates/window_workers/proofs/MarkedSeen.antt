@@ -9,7 +9,7 @@ use Rattle.radio_packet.specs.declared.copy.RadioCopy.{RadioCopy}
 use Rattle.mote_net.specs.Net.{NetModel}
 use Rattle.window_laws.specs.Windows.{is_from_sender, is_within}
 use Rattle.window_laws.proofs.Lists.{filter_filter, every_filter}
-use Rattle.worker_cut.specs.Crossed.{is_own, is_to}
+use Rattle.copy_exchange.specs.Crossed.{is_own, is_to}
 use Rattle.copy_inbox.specs.Items.{copies_of, part}
 use Rattle.copy_exchange.proofs.Parts.{from}
 use Rattle.copy_exchange.specs.Takers.{copies_in}

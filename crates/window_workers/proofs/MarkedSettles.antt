@@ -6,7 +6,7 @@ use Rattle.std.proofs.lemmas.Bool.{cases_eq, cases_lt, false≢true}
 use Rattle.std.proofs.Math.Seq.{drop-length}
 use Rattle.mote_net.specs.Net.{NetModel}
 use Rattle.window_laws.proofs.Lists.{every_weaker}
-use Rattle.worker_cut.specs.Crossed.{is_own}
+use Rattle.copy_exchange.specs.Crossed.{is_own}
 use Rattle.copy_inbox.specs.declared.items.Item.{Item}
 use Rattle.copy_inbox.specs.declared.rule.TakerState.{TakerState}
 use Rattle.copy_inbox.specs.declared.rule.Gathered.{Gathered}

@@ -9,8 +9,8 @@ use Rattle.mote_net.specs.Net.{NetModel}
 use Rattle.window_laws.specs.Forward.{RunsForward}
 use Rattle.window_laws.specs.Windows.{Alone, first_mote, Windows, is_at, Last}
 use Rattle.net_agenda.specs.NetSystem.{system_of}
-use Rattle.worker_cut.specs.Crossed.{is_own, is_to, copies_seen, is_for_others}
-use Rattle.worker_cut.specs.Laws.{GatheredCopies}
+use Rattle.copy_exchange.specs.Crossed.{is_own, is_to, copies_seen, is_for_others}
+use Rattle.copy_exchange.specs.CutLaws.{GatheredCopies}
 use Rattle.copy_inbox.specs.Items.{copies_of}
 use Rattle.copy_exchange.proofs.Parts.{from, from-append}
 use Rattle.copy_exchange.specs.Pushes.{sent_before}

@@ -7,7 +7,7 @@ use Rattle.radio_packet.specs.declared.copy.RadioCopy.{RadioCopy}
 use Rattle.mote_net.specs.Net.{NetModel}
 use Rattle.window_laws.proofs.Lists.{every_weaker}
 use Rattle.net_agenda.specs.NetSystem.{system_of}
-use Rattle.worker_cut.specs.Crossed.{is_to, IsExpected}
+use Rattle.copy_exchange.specs.Crossed.{is_to, IsExpected}
 use Rattle.copy_inbox.specs.declared.items.Carried.{Carried}
 use Rattle.copy_inbox.specs.declared.items.Carried.TheVariants.{Packet, Mark}
 use Rattle.copy_inbox.specs.declared.items.Item.{Item}
@@ -26,7 +26,7 @@ use Rattle.window_workers.specs.WorkerGroup.{IsCut}
 use Rattle.window_workers.specs.declared.worker.Worker.{Worker}
 use Rattle.window_workers.specs.MarkedBounds.{bound, windows_of, AreWindows}
 use Rattle.window_workers.specs.MarkedWorkerHistory.{WorkerRunsMarked}
-use Rattle.window_workers.specs.MarkedThread.{IsFirst, SendsWindow, TakesWindow, WorkerRunsAllWindows}
+use Rattle.window_workers.specs.MarkedThread.{IsBeforeFirstWindow, SendsWindow, TakesWindow, WorkerRunsAllWindows}
 use Rattle.window_workers.proofs.MarkedBounds.{are_windows, begins_before, no_wider}
 use Rattle.window_workers.proofs.MarkedPromise.{promise_first, promise_next}
 
@@ -42,7 +42,7 @@ of_made_more made xs ys h more s le = part-append s xs ys ∙ (ap (λ l. l ++ pa
 
 -- the promise before the first window
 pub no_window : (n : NetModel) (owners : List ℕ) (width : ℕ) (inboxes : List InboxId) (w : Worker)
-    → IsFirst n owners inboxes w → WorkerRunsAllWindows n owners width 0 inboxes w w
+    → IsBeforeFirstWindow n owners inboxes w → WorkerRunsAllWindows n owners width 0 inboxes w w
 no_window n owners width inboxes w m = record {
   stays = stays_same w.endpoint;
   promise = subst (λ (p : ℕ → List Carried). WorkerRunsMarked n owners width 0 (length inboxes) w.endpoint.worker w.share

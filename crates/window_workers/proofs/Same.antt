@@ -11,9 +11,9 @@ use Rattle.window_laws.specs.Agenda.{Item, wake_items}
 use Rattle.window_laws.specs.Windows.{NoneBefore, copies_by}
 use Rattle.net_agenda.specs.NetSystem.{system_of, tree_at}
 use Rattle.worker_window.specs.declared.share.Share.{Share}
-use Rattle.worker_cut.specs.Crossed.{is_own, copies_seen}
+use Rattle.copy_exchange.specs.Crossed.{is_own, copies_seen}
 use Rattle.worker_window.specs.MoteWindow.{node_number}
-use Rattle.worker_window.specs.Share.{Motes, IsAtRest, IsWholeShare, is_to_come, mote_here, wake_from}
+use Rattle.worker_window.specs.Share.{Motes, IsBetweenWindows, IsWholeShare, is_to_come, mote_here, wake_from}
 
 module _ (n : NetModel) (owners : List ℕ) (worker : ℕ) (a b : Motes) (same : (k : ℕ) → is_own owners worker k ≡ true → a k ≡ b k) where
   own_sends : (s : ℕ) → cond (is_own owners worker s) (a s).sends [] ≡ cond {A = List Sent} (is_own owners worker s) (b s).sends []
@@ -33,7 +33,7 @@ module _ (n : NetModel) (owners : List ℕ) (worker : ℕ) (a b : Motes) (same :
     is_worker = h.is_worker;
     places = h.places;
     numbers = λ k m. subst (λ x. node_number x.state ≡ k) (same k m) (h.numbers k m);
-    rests = λ k m. subst (λ x. IsSomeAnd (mote_here share.motes.items k) (IsAtRest (tree_at n k) x)) (same k m) (h.rests k m);
+    rests = λ k m. subst (λ x. IsSomeAnd (mote_here share.motes.items k) (IsBetweenWindows (tree_at n k) x)) (same k m) (h.rests k m);
     elsewhere = h.elsewhere;
     wakes = λ k m. subst (λ x. x.wake ≡ wake_of x.state) (same k m) (h.wakes k m);
     quiet = λ k m. subst (λ x. NoneBefore from x.wake) (same k m) (h.quiet k m);

@@ -12,11 +12,11 @@ use Rattle.copy_inbox.specs.Handles.{InboxId, TakerView}
 use Rattle.copy_inbox.specs.Views.{make_taker_state}
 use Rattle.copy_exchange.specs.Inboxes.{IsFresh, Settled}
 use Rattle.copy_exchange.proofs.Windows.{settled_fresh}
-use Rattle.worker_cut.specs.Crossed.{is_own, is_to, crossed}
+use Rattle.copy_exchange.specs.Crossed.{is_own, is_to, crossed}
 use Rattle.worker_window.specs.declared.share.Share.{Share}
 use Rattle.worker_window.specs.Share.{IsWholeShare}
 use Rattle.window_workers.specs.declared.group.WorkerGroup.{WorkerGroup}
-use Rattle.window_workers.specs.WorkerGroup.{IsAt, IsWorkerAt}
+use Rattle.window_workers.specs.WorkerGroup.{WorkersAreAt, IsWorkerAt}
 use Rattle.window_workers.specs.Start.{AreFirst}
 use Rattle.window_workers.specs.WorkerGroup.{IsCut}
 
@@ -50,7 +50,7 @@ first_worker n owners v share taker marked keeps fresh = record {
 }
 
 pub starts : (n : NetModel) (owners : List ℕ) (group : WorkerGroup) → IsCut (length n.motes) (length group.inboxes.items) owners → AllZip IsFresh group.inboxes.items group.takers.items
-    → AreFirst n owners (length group.inboxes.items) group.shares.items → group.first_out ≡ None → IsAt n owners 0 group
+    → AreFirst n owners (length group.inboxes.items) group.shares.items → group.first_out ≡ None → WorkersAreAt n owners 0 group
 starts n owners group cut fresh shares none = record {
   motes = first_mote (system_of n);
   led = Last;

@@ -12,10 +12,10 @@ use Rattle.window_laws.specs.Windows.{Alone, first_mote, Windows, RunsAlone, cop
 use Rattle.window_laws.proofs.Lists.{filter_filter, filter_none, every_weaker}
 use Rattle.window_laws.proofs.History.{history, unseen_since}
 use Rattle.net_agenda.specs.NetSystem.{system_of}
-use Rattle.worker_cut.specs.Crossed.{is_own, is_to, crossed, is_for_others}
-use Rattle.worker_cut.specs.Laws.{GatheredCopies}
-use Rattle.worker_cut.proofs.Crossed.{given_is, crossed_next}
-use Rattle.worker_cut.proofs.Windows.{one_more, same_copies}
+use Rattle.copy_exchange.specs.Crossed.{is_own, is_to, crossed, is_for_others}
+use Rattle.copy_exchange.specs.CutLaws.{GatheredCopies}
+use Rattle.copy_exchange.proofs.Crossed.{given_is, crossed_next}
+use Rattle.copy_exchange.proofs.CutWindows.{one_more, same_copies}
 use Rattle.worker_window.specs.Share.{Motes}
 use Rattle.worker_window.specs.Window.{RunsOwnMote, IsOutgoing, outgoing_by}
 use Rattle.window_workers.specs.WorkerGroup.{IsCut}

@@ -18,8 +18,8 @@ use Rattle.window_laws.proofs.Order.{in_order_same, sorted_permutes}
 use Rattle.net_agenda.specs.NetSystem.{system_of}
 use Rattle.copy_inbox.specs.Handles.{TakerView}
 use Rattle.copy_exchange.specs.Takers.{taken_by, gathered_by}
-use Rattle.worker_cut.specs.Crossed.{is_own, is_to, crossed, copies_seen}
-use Rattle.worker_cut.proofs.Windows.{coming, coming_pending}
+use Rattle.copy_exchange.specs.Crossed.{is_own, is_to, crossed, copies_seen}
+use Rattle.copy_exchange.proofs.CutWindows.{coming, coming_pending}
 use Rattle.worker_window.specs.declared.share.Share.{Share}
 use Rattle.worker_window.specs.Share.{Motes, is_to_come}
 use Rattle.window_workers.specs.WorkerGroup.{IsWorkerAt}

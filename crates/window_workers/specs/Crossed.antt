@@ -6,7 +6,7 @@ use Rattle.radio_medium.specs.Medium.{copies}
 use Rattle.mote_net.specs.Net.{NetModel}
 use Rattle.copy_inbox.specs.Handles.{InboxId, TakerView}
 use Rattle.copy_exchange.specs.Takers.{taken_by, gathered_by}
-use Rattle.worker_cut.specs.CrossesTo.{AreThoseTo}
+use Rattle.copy_exchange.specs.CrossesTo.{AreThoseTo}
 use Rattle.mote_net.specs.Report.{ReportModel}
 use Rattle.serial_run.specs.Counted.{is_by}
 

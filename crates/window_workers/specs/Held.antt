@@ -14,7 +14,7 @@ use Rattle.copy_inbox.specs.Handles.{TakerView}
 use Rattle.copy_exchange.specs.Takers.{taken_by, gathered_by}
 use Rattle.worker_window.specs.declared.share.Share.{Share}
 use Rattle.window_workers.specs.declared.group.WorkerGroup.{WorkerGroup}
-use Rattle.window_workers.specs.WorkerGroup.{IsAt}
+use Rattle.window_workers.specs.WorkerGroup.{WorkersAreAt}
 
 -- the copies that one worker holds, together with the copies in its inbox that are gathered and not taken yet
 pub record AreWith (share : Share) (taker : TakerView) (copies : List RadioCopy) : Type 0 where
@@ -29,7 +29,7 @@ pub record AreWith (share : Share) (taker : TakerView) (copies : List RadioCopy)
 -- exactly once.
 abbrev pub AgendaIsHeld : Type 0
 AgendaIsHeld = (model : NetModel) → RunsForward (system_of model) → (owners : List ℕ) (end : ℕ) (group : WorkerGroup)
-    → IsAt model owners (suc end) group
+    → WorkersAreAt model owners (suc end) group
     → (net : NetState Node Line) → Run (system_of model) end (boot (system_of model)) net
     → (parts : ℕ → List RadioCopy)
     × ((worker : ℕ) → worker < length group.inboxes.items → (share : Share) (taker : TakerView)

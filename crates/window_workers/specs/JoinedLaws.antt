@@ -11,7 +11,7 @@ use Rattle.copy_exchange.specs.Inboxes.{Settled}
 use Rattle.window_workers.specs.declared.group.WorkerGroup.{WorkerGroup}
 use Rattle.window_workers.specs.declared.worker.Worker.{Worker}
 use Rattle.window_workers.specs.Worker.{make_worker}
-use Rattle.window_workers.specs.WorkerGroup.{IsAt}
+use Rattle.window_workers.specs.WorkerGroup.{WorkersAreAt}
 use Rattle.window_workers.specs.JoinedNext.{IsNextOfAll, FirstOfAll}
 use Rattle.window_workers.specs.JoinedWorker.{RunsWorker}
 
@@ -35,12 +35,12 @@ pub record GroupRunsUntil (model : NetModel) (owners : List ℕ) (until : ℕ) (
 abbrev pub WindowMovesOn : Type 0
 WindowMovesOn = (model : NetModel) → RunsForward (system_of model)
     → (owners : List ℕ) (from until : ℕ) (old new : WorkerGroup)
-    → IsAt model owners from old → from < until → until ≤ from + (system_of model).lookahead
-    → GroupRunsUntil model owners until old new → IsAt model owners until new
+    → WorkersAreAt model owners from old → from < until → until ≤ from + (system_of model).lookahead
+    → GroupRunsUntil model owners until old new → WorkersAreAt model owners until new
 
 -- the first pending event isn't before the moment of the workers; at each moment up to this event, the workers are in
 -- the state of that moment
 abbrev pub StaysUntilNext : Type 0
 StaysUntilNext = (model : NetModel) → RunsForward (system_of model) → (owners : List ℕ) (from : ℕ) (group : WorkerGroup)
-    → (next : Option ℕ) → IsAt model owners from group → IsNextOfAll group.first_out group.shares.items next
-    → NoneBefore from next × ((moment : ℕ) → from ≤ moment → NoneBefore moment next → IsAt model owners moment group)
+    → (next : Option ℕ) → WorkersAreAt model owners from group → IsNextOfAll group.first_out group.shares.items next
+    → NoneBefore from next × ((moment : ℕ) → from ≤ moment → NoneBefore moment next → WorkersAreAt model owners moment group)

@@ -10,7 +10,7 @@ use Rattle.copy_exchange.specs.declared.endpoint.Endpoint.{Endpoint}
 use Rattle.copy_exchange.specs.Endpoints.{IsEndpoint, Collects, Delivers}
 use Rattle.copy_exchange.specs.Takers.{taken_by, gathered_by}
 use Rattle.copy_exchange.specs.Inboxes.{HasNoMarks}
-use Rattle.worker_cut.specs.Crossed.{is_own, IsExpected}
+use Rattle.copy_exchange.specs.Crossed.{is_own, IsExpected}
 use Rattle.worker_window.specs.Share.{Motes, IsWholeShare}
 use Rattle.worker_window.specs.Window.{CanRun, RunsWindow, IsOutgoing}
 use Rattle.window_workers.specs.WorkerGroup.{IsCut, IsNotBefore}

@@ -1,5 +1,5 @@
 -- The actions of all workers in a run with marks, worker by worker.
-use Rattle.std.specs.Prelude.{◌≡◌, ℕ, ◌<◌, List, [], slice_get, Option, Some}
+use Rattle.std.specs.Prelude.{◌≡◌, ℕ, ◌<◌, List, [], Option}
 use Rattle.std.specs.List.{AllByRecursion as Each}
 use Rattle.mote_net.specs.Net.{NetModel}
 use Rattle.copy_inbox.specs.declared.items.Item.{Item}
@@ -33,9 +33,3 @@ pub record GatheredSenders (made : ℕ) (taken : List Item) (senders : List Send
     pub is_taken : before.state.taken ≡ taken
     pub nobody : before.state.gathered ≡ []
     pub gathered : taker ≡ gather_senders before senders
-
--- The takers took and gathered exactly the items of `all`.
-abbrev pub IsOfTakers : {model : NetModel} {owners : List ℕ} {width windows workers : ℕ}
-    → AllRan model owners width windows workers → List TakerView → Type 0
-IsOfTakers {model} {owners} {width} {windows} {workers} all takers = (v : ℕ) → v < workers → (taker : TakerView)
-    → slice_get takers v ≡ Some taker → GatheredSenders (all.made v) (all.taken v) (all.senders v) taker

@@ -9,7 +9,7 @@ use Rattle.copy_inbox.specs.Items.{part, HasPrefix}
 use Rattle.copy_inbox.specs.Handles.{InboxId, TakerView, SenderView}
 use Rattle.worker_window.specs.declared.share.Share.{Share}
 use Rattle.window_workers.specs.declared.group.WorkerGroup.{WorkerGroup}
-use Rattle.window_workers.specs.WorkerGroup.{IsAt}
+use Rattle.window_workers.specs.WorkerGroup.{WorkersAreAt}
 use Rattle.window_workers.specs.WorkerGroup.{IsCut}
 use Rattle.window_workers.specs.MarkedBounds.{AreWindows}
 use Rattle.copy_exchange.specs.Endpoints.{pushed_list}
@@ -50,5 +50,5 @@ abbrev pub MarkedWindowsLeadToTheEnd : Type 0
 MarkedWindowsLeadToTheEnd = (model : NetModel) → RunsForward (system_of model) → (owners : List ℕ) (width windows : ℕ)
     → width ≤ (system_of model).lookahead → AreWindows width model.end windows
     → (group : WorkerGroup) → EndAllMarked model owners width windows group
-    → IsAt model owners (suc model.end) group
+    → WorkersAreAt model owners (suc model.end) group
     × Each (λ (t : TakerView). Whole t.state.gathered t.state.taken) group.takers.items

@@ -18,7 +18,7 @@ use Rattle.window_workers.specs.MarkedWorkerHistory.{WorkerRunsMarked}
 
 -- A worker before its first window: its share is unchanged since it was made, its inbox has a sender of each other
 -- worker, and nothing was pushed or taken.
-pub record IsFirst (model : NetModel) (owners : List ℕ) (inboxes : List InboxId) (w : Worker) : Type 0 where
+pub record IsBeforeFirstWindow (model : NetModel) (owners : List ℕ) (inboxes : List InboxId) (w : Worker) : Type 0 where
   pub cut : IsCut (length model.motes) (length inboxes) owners
   pub keeps : IsWholeShare model owners w.endpoint.worker 0 (first_mote (system_of model)) [] w.share
   pub on_inboxes : IsOnInboxes inboxes w.endpoint

@@ -5,7 +5,7 @@ use Rattle.radio_packet.specs.declared.copy.RadioCopy.{RadioCopy}
 use Rattle.mote_net.specs.Net.{NetModel}
 use Rattle.window_laws.specs.Windows.{first_mote, Windows, NoneBefore, is_from_sender}
 use Rattle.net_agenda.specs.NetSystem.{system_of}
-use Rattle.worker_cut.specs.Laws.{GatheredCopies}
+use Rattle.copy_exchange.specs.CutLaws.{GatheredCopies}
 use Rattle.copy_inbox.specs.Handles.{TakerView}
 use Rattle.copy_exchange.specs.Takers.{taken_by, gathered_by}
 use Rattle.copy_exchange.specs.Inboxes.{Settled}
@@ -40,7 +40,7 @@ pub record IsWorkerAt (model : NetModel) (owners : List ℕ) (from : ℕ) (motes
 
 -- The workers are ready before the moment `from`: windows from 0 to `from` led to the state `motes`, and each worker's
 -- share and taker hold its part of this state.
-pub record IsAt (model : NetModel) (owners : List ℕ) (from : ℕ) (group : WorkerGroup) : Type 0 where
+pub record WorkersAreAt (model : NetModel) (owners : List ℕ) (from : ℕ) (group : WorkerGroup) : Type 0 where
   pub motes : Motes
   pub led : Windows (system_of model) 0 from (first_mote (system_of model)) motes
   pub cut : IsCut (length model.motes) (length group.inboxes.items) owners

@@ -10,14 +10,14 @@ use copy_exchange::known;
 use copy_inbox::{Inbox, Taker};
 use std::alloc::{AllocError, Global};
 use std::sync::Wait;
-use worker_window::{Ended, Share};
+use worker_window::{EndedShare, Share};
 
 /// Takes the shares of all workers apart, and returns their results.
 ///
 /// # Errors
 /// `AllocError` if an allocation fails, or if a share's number of copies is above `u64::MAX`. No memory has room for
 /// so many copies.
-pub fn end_all(alloc: Global, shares: Vec<Share>) -> Result<Vec<Ended>, AllocError>
+pub fn end_all(alloc: Global, shares: Vec<Share>) -> Result<Vec<EndedShare>, AllocError>
     ensures tells_what_it_kept { IfOk result (λ all. AllZip TellsWhatItKept shares.items all.items) }
 {
     let mut all = Vec::new(alloc);
@@ -36,7 +36,7 @@ fn plus(one: u64, other: u64) -> Result<u64, AllocError>
 }
 
 /// Returns the number of copies that were still on their way to the workers' motes, without those in the inboxes.
-fn left_to_come(ended: &[Ended]) -> Result<u64, AllocError>
+fn left_to_come(ended: &[EndedShare]) -> Result<u64, AllocError>
     ensures sum { IfOk result (λ left. left ≡ sum_by (λ one. one.left) ended.now) }
 {
     let mut left = 0;
@@ -63,7 +63,7 @@ fn left_in_inboxes(pairs: &[(Inbox, Taker)]) -> Result<u64, AllocError>
 ///
 /// # Errors
 /// `AllocError` only for a number above `u64::MAX`. No memory has room for so many copies. Nothing is allocated.
-pub fn left_of_all(ended: &[Ended], pairs: &[(Inbox, Taker)]) -> Result<u64, AllocError>
+pub fn left_of_all(ended: &[EndedShare], pairs: &[(Inbox, Taker)]) -> Result<u64, AllocError>
     requires settled { Each (λ pair. IsSettled pair.0 pair.1) pairs.now }
     ensures balanced { IfOk result (λ left. sum_by (λ one. one.left) ended.now
         + sum_by (λ pair. length (gathered_by pair.1)) pairs.now

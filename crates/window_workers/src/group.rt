@@ -6,7 +6,7 @@ ghost use Rattle.fork_join.specs.declared.work.WorkerError.TheVariants.{Memory};
 ghost use Rattle.mote_net.specs.Meaning.{net_of};
 ghost use Rattle.copy_exchange.specs.Inboxes.{IsFresh};
 ghost use Rattle.window_workers.specs.Start.{AreFirst};
-ghost use Rattle.window_workers.specs.WorkerGroup.{IsAt, IsCut};
+ghost use Rattle.window_workers.specs.WorkerGroup.{WorkersAreAt, IsCut};
 
 use copy_inbox::{Inbox, Taker};
 use fork_join::WorkerError;
@@ -60,7 +60,7 @@ impl WorkerGroup {
         requires inboxes_bounded { length inboxes.items ≤ 16 }
         requires cut { IsCut (length (net_of net.now).motes) (length inboxes.items) owners.now }
         requires fresh { AllZip IsFresh inboxes.items takers.items }
-        ensures at_moment { IfOk result (λ group. IsAt (net_of net.now) owners.now 0 group) }
+        ensures at_moment { IfOk result (λ group. WorkersAreAt (net_of net.now) owners.now 0 group) }
         ensures first { IfOk result
             (λ group. AreFirst (net_of net.now) owners.now (length inboxes.items) group.shares.items) }
         ensures inboxes { IfOk result

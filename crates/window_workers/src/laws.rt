@@ -11,7 +11,7 @@ pub use serial_run::laws::{
     sends_are_stamped, some_are_unsent, traces_hand_on, unsent_is_nothing, windows_commute,
 };
 
-/// Suppose that a net runs forward, and that its workers are ready (`IsAt`) before a window other than the first. Then
+/// Suppose that a net runs forward, and that its workers are ready (`WorkersAreAt`) before a window other than the first. Then
 /// the copies of the net's agenda are those that the workers hold and those in the inboxes, each exactly once. (Before
 /// the first window, nothing was sent.) The agenda is that of the run of the net one turn at a time, after all turns
 /// before the window.

@@ -16,10 +16,10 @@ mod windows;
 mod worker;
 mod workers;
 
+pub use copy_exchange::Cut;
 pub use fits::MOST_WORKERS;
 pub use mote_net::{LogLine, Report};
 pub use serial_run::{RunError, run_serial};
 pub use sync::SyncKind;
-pub use worker_cut::Cut;
 pub use worker_window::{Gate, MoteWindow, NoGate, WindowOut};
 pub use workers::{run_inboxes, run_workers};

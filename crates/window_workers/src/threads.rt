@@ -1,4 +1,4 @@
-//! The threads of the workers.
+//! The threads of the workers, in both kinds of runs.
 
 ghost use Rattle.std.specs.Prelude.{◌≡◌, ◌^◌, ◌≤◌, true, length, IfErr, IfOk};
 ghost use Rattle.fork_join.specs.Gravest.{is_own_failure};

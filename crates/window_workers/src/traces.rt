@@ -7,10 +7,10 @@ ghost use Rattle.window_workers.specs.Over.{HasTrace, TakesOneTrace, AreTracesOf
 use process_kernel::Line;
 use std::alloc::{AllocError, Global};
 use std::mem;
-use worker_window::Ended;
+use worker_window::EndedShare;
 
 /// Takes the trace of a mote from its worker.
-fn take_trace(alloc: Global, ended: &mut Vec<Ended>, worker: usize, mote: usize) -> Vec<Line>
+fn take_trace(alloc: Global, ended: &mut Vec<EndedShare>, worker: usize, mote: usize) -> Vec<Line>
     requires worker { worker < length ended.old.items }
     requires mote { HasTrace worker mote ended.old.items }
     ensures takes_trace { TakesOneTrace worker mote ended.old.items ended.new.items result }
@@ -27,7 +27,7 @@ fn take_trace(alloc: Global, ended: &mut Vec<Ended>, worker: usize, mote: usize)
 pub fn joined_traces(
     alloc: Global,
     owners: &[u16],
-    ended: Vec<Ended>,
+    ended: Vec<EndedShare>,
 ) -> Result<Vec<Vec<Line>>, AllocError>
     requires workers { Each (λ worker. worker < length ended.items) owners.now }
     requires places { Each (λ one. length one.traces.items ≡ length owners.now) ended.items }

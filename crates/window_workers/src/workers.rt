@@ -7,7 +7,7 @@ ghost use Rattle.mote_net.specs.Meaning.{net_of};
 ghost use Rattle.mote_net.specs.Net.{NetModel};
 ghost use Rattle.copy_inbox.specs.Gathered.{Whole, known_of};
 ghost use Rattle.copy_exchange.specs.Inboxes.{IsFresh, IsSettled};
-ghost use Rattle.window_workers.specs.WorkerGroup.{IsAt};
+ghost use Rattle.window_workers.specs.WorkerGroup.{WorkersAreAt};
 ghost use Rattle.window_workers.specs.Start.{AreReady};
 ghost use Rattle.mote_net.specs.Report.{report_of};
 ghost use Rattle.window_workers.specs.Crossed.{AllCrossed};
@@ -26,7 +26,7 @@ use crate::medium_log::medium_log;
 use crate::refusal::of_refused;
 use crate::sync::SyncKind;
 use crate::traces::joined_traces;
-use copy_exchange::{make_inboxes, pair_inboxes, split_pairs};
+use copy_exchange::{Cut, make_inboxes, pair_inboxes, split_pairs};
 use copy_inbox::{Inbox, Taker};
 use mote_net::{Net, Report};
 use serial_run::RunError;
@@ -34,7 +34,6 @@ use std::alloc::{AllocGlobal, Global};
 use std::random::RandomSource;
 use std::sync::Wait;
 use std::thread::Threads;
-use worker_cut::Cut;
 use worker_window::Gate;
 
 /// Makes the workers' report at the end, and returns it with their inboxes. `owners` is the worker of each mote.
@@ -90,7 +89,7 @@ where
     R: Threads + Wait + RandomSource + AllocGlobal + Sync,
     G: Gate + Sync,
     requires ready { AreReady (net_of net.now) owners.now group }
-    requires at_moment { IsAt (net_of net.now) owners.now 0 group }
+    requires at_moment { WorkersAreAt (net_of net.now) owners.now 0 group }
     requires kind { Each (IsForKind sync) group.takers.items }
     ensures at_end { IfOk result (AreAtEnd (net_of net.now) owners.now) }
     ensures inboxes { IfOk result (λ done. done.inboxes.items ≡ group.inboxes.items) }

@@ -30,9 +30,9 @@ use Rattle.net_agenda.specs.Buckets.{HoldsItems}
 use Rattle.net_agenda.specs.Changes.{without_wakes}
 use Rattle.net_agenda.specs.NetSystem.{tree_at, system_of}
 use Rattle.worker_window.specs.declared.share.Share.{Share}
-use Rattle.worker_cut.specs.Crossed.{is_own, copies_seen, is_for_others}
+use Rattle.copy_exchange.specs.Crossed.{is_own, copies_seen, is_for_others}
 use Rattle.worker_window.specs.MoteWindow.{node_number}
-use Rattle.worker_window.specs.Share.{Motes, IsAtRest, IsShare, HasToCome, mote_here, is_to_come, wake_from}
+use Rattle.worker_window.specs.Share.{Motes, IsBetweenWindows, IsShare, HasToCome, mote_here, is_to_come, wake_from}
 use Rattle.worker_window.specs.Window.{outgoing_by}
 use Rattle.worker_window.specs.Resting.{ComesToRest}
 use Rattle.worker_window.specs.Events.{is_one_of}
@@ -184,7 +184,7 @@ module _ (n : NetModel) (owners : List ℕ) (worker from until : ℕ) (before no
     mote_else j ne = ap (λ l. mote_here l j) rested.motes ∙ get_or-set_other old.motes.items k j (Some rested.rested) None ne
 
     -- the mote is at rest
-    at_rest : IsAtRest (tree_at n k) back.last rested.rested
+    at_rest : IsBetweenWindows (tree_at n k) back.last rested.rested
     at_rest =
         let r = rested.is_rested in
         record {
@@ -264,10 +264,10 @@ module _ (n : NetModel) (owners : List ℕ) (worker from until : ℕ) (before no
       places = ap length rested.motes ∙ (length-set old.motes.items k (Some rested.rested) ∙ in_state.places);
       numbers = all_here (λ j m. node_number m.state ≡ j) back.number_is in_state.numbers;
       rests =
-          by_mote (λ j. here j ≡ true → IsSomeAnd (mote_here share.motes.items j) (IsAtRest (tree_at n j) (next j)))
-          (λ _. subst (λ (o : Option OwnWindow). IsSomeAnd o (IsAtRest (tree_at n k) (next k))) (sym mote_k) (subst (λ m. IsAtRest (tree_at n k) m rested.rested) (sym at_k) at_rest))
-          (λ j ne h. subst (λ (o : Option OwnWindow). IsSomeAnd o (IsAtRest (tree_at n j) (next j))) (sym (mote_else j ne))
-          (subst (λ m. IsSomeAnd (mote_here old.motes.items j) (IsAtRest (tree_at n j) m)) (sym (elsewhere j ne)) (in_state.rests j (same_here j ne ∙ h))));
+          by_mote (λ j. here j ≡ true → IsSomeAnd (mote_here share.motes.items j) (IsBetweenWindows (tree_at n j) (next j)))
+          (λ _. subst (λ (o : Option OwnWindow). IsSomeAnd o (IsBetweenWindows (tree_at n k) (next k))) (sym mote_k) (subst (λ m. IsBetweenWindows (tree_at n k) m rested.rested) (sym at_k) at_rest))
+          (λ j ne h. subst (λ (o : Option OwnWindow). IsSomeAnd o (IsBetweenWindows (tree_at n j) (next j))) (sym (mote_else j ne))
+          (subst (λ m. IsSomeAnd (mote_here old.motes.items j) (IsBetweenWindows (tree_at n j) m)) (sym (elsewhere j ne)) (in_state.rests j (same_here j ne ∙ h))));
       elsewhere = λ j away. mote_else j (λ e. false≢true (sym away ∙ (ap own e ∙ back.mine))) ∙ in_state.elsewhere j away;
       wakes = all_here (λ j m. m.wake ≡ wake_of m.state) back.wakes in_state.wakes;
       quiet = all_here (λ j m. NoneBefore until m.wake) back.quiet in_state.quiet;

@@ -17,9 +17,9 @@ use Rattle.net_agenda.specs.Buckets.{HoldsItems}
 use Rattle.net_agenda.specs.NetSystem.{system_of, first_node_in, tree_at}
 use Rattle.net_agenda.proofs.NewWakes.{new_wakes, new_numbers}
 use Rattle.worker_window.specs.declared.share.Share.{Share}
-use Rattle.worker_cut.specs.Crossed.{is_own, copies_seen}
+use Rattle.copy_exchange.specs.Crossed.{is_own, copies_seen}
 use Rattle.worker_window.specs.Log.{HaveFates, packets_in}
-use Rattle.worker_window.specs.Share.{mote_here, IfOwn, IsAtRest, IsFirst, IsWholeShare, is_to_come}
+use Rattle.worker_window.specs.Share.{mote_here, IfOwn, IsBetweenWindows, IsBeforeFirstTurn, IsWholeShare, is_to_come}
 use Rattle.worker_window.specs.declared.own.OwnWindow.{OwnWindow}
 use Rattle.worker_window.proofs.Places.{none_behind}
 use Rattle.mote_node.specs.Public.{wake_in}
@@ -85,7 +85,7 @@ module _ (n : NetModel) (owners : List ℕ) (worker : ℕ) (long : length owners
   no_lines k = refl
 
   -- a new mote is at rest
-  at_first : (k : ℕ) (mote : Option OwnWindow) → own k ≡ true → IsSomeAnd mote (IsFirst n k) → IsSomeAnd mote (IsAtRest (tree_at n k) (first_mote (system_of n) k))
+  at_first : (k : ℕ) (mote : Option OwnWindow) → own k ≡ true → IsSomeAnd mote (IsBeforeFirstTurn n k) → IsSomeAnd mote (IsBetweenWindows (tree_at n k) (first_mote (system_of n) k))
   at_first k None mine first = absurd first
   at_first k (Some one) mine first =
       let wake : one.wake ≡ (first_mote (system_of n) k).wake = first.new.wake (tree_at n k) ∙ (ap wake_in first.node ∙ sym (first_wake k mine)) in
@@ -106,15 +106,15 @@ module _ (n : NetModel) (owners : List ℕ) (worker : ℕ) (long : length owners
   none_else motes k none = elim (cases_lt k (length motes)) [ inl low ↦ none low | inr high ↦ none_behind motes k (λ low. absurd (omega arith)) ]
 
   pub begins : (share : Share) → share.worker ≡ worker → length share.motes.items ≡ length n.motes
-      → ((k : ℕ) → k < length n.motes → IfOwn (own k) (mote_here share.motes.items k) (IsFirst n k))
+      → ((k : ℕ) → k < length n.motes → IfOwn (own k) (mote_here share.motes.items k) (IsBeforeFirstTurn n k))
       → share.log.items ≡ [] → HoldsItems share.agenda.buckets (map (λ k. Wake 0 k) (filter own (up_to (length n.motes))))
       → IsWholeShare n owners worker 0 (first_mote (system_of n)) [] share
   begins share is_worker motes firsts log holds = record {
     is_worker = is_worker;
     places = motes;
     numbers = λ k mine. ap (λ s. s.mote.state.mote) (first_state k) ∙ new_numbers n k;
-    rests = λ k mine. (let h = own_there owners worker k mine in at_first k (mote_here share.motes.items k) mine (subst (λ b. IfOwn b (mote_here share.motes.items k) (IsFirst n k)) mine (firsts k (omega arith))));
-    elsewhere = λ k away. none_else share.motes.items k (λ low. subst (λ b. IfOwn b (mote_here share.motes.items k) (IsFirst n k)) away (firsts k (subst (λ m. k < m) motes low)));
+    rests = λ k mine. (let h = own_there owners worker k mine in at_first k (mote_here share.motes.items k) mine (subst (λ b. IfOwn b (mote_here share.motes.items k) (IsBeforeFirstTurn n k)) mine (firsts k (omega arith))));
+    elsewhere = λ k away. none_else share.motes.items k (λ low. subst (λ b. IfOwn b (mote_here share.motes.items k) (IsBeforeFirstTurn n k)) away (firsts k (subst (λ m. k < m) motes low)));
     wakes = λ k mine. wakes_at_0 k mine ∙ (sym (new_wakes n k) ∙ ap wake_of (sym (first_state k)));
     quiet = quiet;
     turned_before = λ k mine. ap (λ s. is_past 0 s.last) (first_state k) ∙ not_begun n k 0;

@@ -3,7 +3,7 @@ use Rattle.std.proofs.Common.{◌≡◌, ◌∙◌, ℕ, ◌<◌, Bool, true, fa
 use Rattle.std.proofs.lemmas.Bool.{cases_eq, eq-eqb, ne_eqb, false≢true}
 use Rattle.radio_packet.specs.declared.copy.RadioCopy.{RadioCopy}
 use Rattle.worker_window.specs.declared.own.OwnWindow.{OwnWindow}
-use Rattle.worker_window.specs.Events.{IsSameMote, are_different, copies_at, copies_of, is_called, is_one_of}
+use Rattle.worker_window.specs.Events.{IsSameMote, are_different, copies_at, held_copies, is_called, is_one_of}
 use Rattle.worker_window.specs.Share.{mote_here}
 use Rattle.worker_window.proofs.Numbers.{among_more, different_more}
 use Rattle.worker_window.proofs.Places.{at_place, put_here, put_else}
@@ -33,15 +33,15 @@ still_there (Some x) (Some y) h there = refl
 
 -- one mote is given copies
 module _ (first now : List (Option OwnWindow)) (k : ℕ) (old new : Option OwnWindow) (is : old ≡ get_or now k old) (low : k < length now) (more : List RadioCopy)
-    (added : copies_of new ≡ copies_of old ++ more) (kept : IsSameMote old new) where
+    (added : held_copies new ≡ held_copies old ++ more) (kept : IsSameMote old new) where
   here : mote_here now k ≡ old
   here = at_place now k old None is low
 
   pub more_here : copies_at (set now k new) k ≡ copies_at now k ++ more
-  more_here = ap copies_of (put_here now k new None low) ∙ (added ∙ ap (λ m. copies_of m ++ more) (sym here))
+  more_here = ap held_copies (put_here now k new None low) ∙ (added ∙ ap (λ m. held_copies m ++ more) (sym here))
 
   pub else_same : (j : ℕ) → (j ≡ k → ⊥) → copies_at (set now k new) j ≡ copies_at now j
-  else_same j ne = ap copies_of (put_else now k j new None ne)
+  else_same j ne = ap held_copies (put_else now k j new None ne)
 
   pub same_still : ((j : ℕ) → IsSameMote (mote_here first j) (mote_here now j)) → (j : ℕ) → IsSameMote (mote_here first j) (mote_here (set now k new) j)
   same_still same j = elim (cases_eq j k) [

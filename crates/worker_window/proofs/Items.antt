@@ -12,7 +12,7 @@ use Rattle.window_laws.specs.Windows.{NoneBefore, is_from_sender}
 use Rattle.window_laws.proofs.Lists.{every_passes, every_weaker}
 use Rattle.net_agenda.specs.Buckets.{Buckets}
 use Rattle.net_agenda.specs.NetSystem.{system_of}
-use Rattle.worker_cut.specs.Crossed.{copies_seen}
+use Rattle.copy_exchange.specs.Crossed.{copies_seen}
 use Rattle.worker_window.specs.Share.{Motes, HasToCome, is_to_come, wake_from}
 
 -- a property of each mote's wakes and each sender's copies is a property of each item

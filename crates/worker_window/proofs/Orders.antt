@@ -110,10 +110,6 @@ taken m xs given r h e =
       rest_is = ap (λ g. drop (length g) xs) e ∙ ap (λ n. drop n xs) (length_map arrival_of (take_while (is_at m) xs)) ∙ behind m xs rising h;
     }
 
--- the result of `least`
-pub nothing_next : (wake : Option ℕ) (xs : List RadioCopy) (until : ℕ) → wake ≡ None → xs ≡ [] → IsQuiet until wake xs
-nothing_next wake xs until e f = rw (e, f) (record { no_wake = tt; no_copies = tt })
-
 pub quiet_before : (m until : ℕ) (wake : Option ℕ) (xs : List RadioCopy) → IsNextOf m wake xs → until ≤ m → IsQuiet until wake xs
 quiet_before m until wake xs h le = record {
   no_wake = wake_before wake h.quiet.no_wake;
@@ -126,9 +122,6 @@ quiet_before m until wake xs h le = record {
 
 own : (m : ℕ) → (eqb m m) ≡ true
 own m = eq-eqb m m refl
-
-pub wake_alone : (m : ℕ) → IsNextOf m (Some m) []
-wake_alone m = record { quiet = record { no_wake = omega arith; no_copies = tt }; comes = rw (own m) refl }
 
 copy_alone : (x : RadioCopy) (xs : List RadioCopy) → is_rising (x ∷ xs) ≡ true → IsNextOf x.at None (x ∷ xs)
 copy_alone x xs r = record { quiet = record { no_wake = tt; no_copies = from_first x xs r }; comes = rw (own x.at) refl }

@@ -17,7 +17,7 @@ use Rattle.window_laws.proofs.Order.{sorted_rising}
 use Rattle.net_agenda.specs.NetSystem.{system_of}
 use Rattle.worker_window.specs.declared.share.Share.{Share}
 use Rattle.worker_window.specs.Events.{is_not_before, is_one_of, calls_for, TakesCopiesFor}
-use Rattle.worker_cut.specs.Crossed.{is_own, copies_seen, IsExpected}
+use Rattle.copy_exchange.specs.Crossed.{is_own, copies_seen, IsExpected}
 use Rattle.worker_window.specs.Share.{Motes, IsWholeShare, is_to_come, wake_from}
 use Rattle.worker_window.proofs.Items.{inside, all_wakes, packets_of_all}
 use Rattle.worker_window.proofs.Rises.{sorted_is_sorted}

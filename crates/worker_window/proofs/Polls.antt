@@ -1,11 +1,9 @@
 -- The possible results of a window, at its end and before a turn.
-use Rattle.std.proofs.Common.{◌≡◌, ◌∙◌, ℕ, not, List, map, drop, Option, Some, None, Result, Ok, Err, option_map, refl, sym, ap, subst, inl, inr}
+use Rattle.std.proofs.Common.{◌≡◌, ◌∙◌, ℕ, not, List, map, drop, Option, Some, None, Result, Ok, Err, option_map, refl, sym, ap, subst}
 use Rattle.std.specs.Prelude.{IfSome, MatchOption}
 use Rattle.std.specs.List.{filter}
-use Rattle.std.proofs.lemmas.Bool.{false≢true}
 use Rattle.trace_lines.specs.declared.line.Line.{Line}
 use Rattle.mote_node.specs.declared.mote.MoteError.{MoteError}
-use Rattle.mote_node.specs.declared.mote.MoteError.TheVariants.{Memory}
 use Rattle.mote_node.specs.Turn.{Node}
 use Rattle.mote_node.specs.Public.{node_in}
 use Rattle.program_tree.specs.Code.{Tree}
@@ -22,7 +20,7 @@ use Rattle.worker_window.specs.Laws.{IsAhead}
 use Rattle.worker_window.specs.Out.{shown, Gives, out_of}
 use Rattle.worker_window.specs.declared.own.OwnWindow.{OwnWindow}
 use Rattle.worker_window.specs.Own.{window_in, course_in, window_over, IsFinished, GivesNoMore}
-use Rattle.worker_window.specs.Turns.{MayGive, MayAnswer, TurnsTo, TakesTurn, IsErrorAt, IsFirstError, IsFirstTurn, CanGoOn, HasTurns, RestsAs}
+use Rattle.worker_window.specs.Turns.{MayGive, MayAnswer, TurnsTo, TakesTurn, IsFirstTurn, CanGoOn, HasTurns, RestsAs}
 use Rattle.worker_window.proofs.Ahead.{no_turn_is_past}
 
 -- a window in which no turn is left has its own result
@@ -89,16 +87,6 @@ pub goes_on : (p : Tree) (until : ℕ) (old new : Option OwnWindow) → TakesTur
 goes_on p until None new turned on = absurd on
 goes_on p until (Some own) None turned on = absurd turned
 goes_on p until (Some own) (Some after) turned on = on_after (window_in p until own) (window_in p until after) turned.moment turned.left turned.turned on
-
--- if a mote can continue, the only error of its turn is out of memory
-pub at_refusal : (p : Tree) (until : ℕ) (old : Option OwnWindow) (own : OwnWindow) (e : MoteError) → Some own ≡ old
-    → IsFirstError (course_in p until own) (window_in p until own) e → HasTurns p until old → e ≡ Memory
-at_refusal p until old own e is first on = of_window first.moment (window_in p until own) first.left first.error (rw (← is) at on)
-  where
-    of_window : (moment : ℕ) (window : Option Window) → IfSome window (HasTurn moment) → IfSome window (IsErrorAt moment e) → CanGoOn window → e ≡ Memory
-    of_window moment None left error on = absurd on
-    of_window moment (Some w) left (inl memory) on = memory
-    of_window moment (Some w) left (inr past) on = absurd (false≢true (sym (on moment left.next) ∙ past.1))
 
 pub before_turn : (p : Tree) (until : ℕ) (old : Option OwnWindow) (own new : OwnWindow) → Some own ≡ old
     → IsFirstTurn (window_in p until own) (window_in p until new) → (r : Result WindowOut MoteError) → MayAnswer p until (Some new) r → MayAnswer p until old r

@@ -16,7 +16,7 @@ use Rattle.net_agenda.specs.NetSystem.{system_of}
 use Rattle.worker_window.specs.declared.own.OwnWindow.{OwnWindow}
 use Rattle.worker_window.specs.declared.share.Share.{Share}
 use Rattle.worker_window.specs.Out.{out_of}
-use Rattle.worker_cut.specs.Crossed.{is_own, copies_seen, is_for_others}
+use Rattle.copy_exchange.specs.Crossed.{is_own, copies_seen, is_for_others}
 use Rattle.worker_window.specs.Share.{Motes, IsShare, mote_here}
 use Rattle.worker_window.specs.Window.{IsOutgoing, RunsWindow, outgoing_by}
 use Rattle.worker_window.specs.Resting.{ComesToRest, HasSent}

@@ -12,7 +12,7 @@ use Rattle.radio_packet.specs.declared.fate.Fate.{Fate}
 use Rattle.radio_packet.specs.declared.sent.Sent.{Sent}
 use Rattle.radio_medium.specs.Medium.{copy_of}
 use Rattle.window_laws.specs.Agenda.{Item, Packet}
-use Rattle.worker_cut.specs.Crossed.{is_for_others}
+use Rattle.copy_exchange.specs.Crossed.{is_for_others}
 
 -- a list that is made piece by piece from another list
 module _ {A B : Type 0} (made : List A → List B) (splits : (xs ys : List A) → made (xs ++ ys) ≡ made xs ++ made ys) where

@@ -20,10 +20,10 @@ use Rattle.worker_window.proofs.Ends.{not_before}
 use Rattle.net_agenda.specs.Buckets.{HoldsItems}
 use Rattle.net_agenda.specs.NetSystem.{tree_at, system_of}
 use Rattle.worker_window.specs.declared.share.Share.{Share}
-use Rattle.worker_window.specs.Events.{CanTakeEvents, IsSameMote, TakesCopiesFor, TakesEventsBefore, calls_for, copies_of, is_called, is_one_of}
-use Rattle.worker_cut.specs.Crossed.{is_own, IsExpected}
+use Rattle.worker_window.specs.Events.{CanTakeEvents, IsSameMote, TakesCopiesFor, TakesEventsBefore, calls_for, held_copies, is_called, is_one_of}
+use Rattle.copy_exchange.specs.Crossed.{is_own, IsExpected}
 use Rattle.worker_window.specs.Log.{HaveFates, packets_in}
-use Rattle.worker_window.specs.Share.{Motes, HoldsMote, IsAtRest, IsWholeShare, mote_here}
+use Rattle.worker_window.specs.Share.{Motes, HoldsMote, IsBetweenWindows, IsWholeShare, mote_here}
 use Rattle.worker_window.specs.Window.{CanRun, outgoing_by}
 use Rattle.worker_window.specs.Worker.{AreCalled, CanAllGoOn, CanMoteGoOn, MayEnd, MayEndAs}
 use Rattle.worker_window.proofs.Begins.{own_there}
@@ -69,15 +69,15 @@ module _ (n : NetModel) (owners : List ℕ) (until : ℕ) (share : Share) (arriv
   same_own : (k : ℕ) → own k ≡ is_own owners share.worker k
   same_own k = ap (λ w. is_own owners w k) (sym ready.keeps.is_worker)
 
-  some_rest : (tree : Tree) (mote : LoneMote Node Line) (o : Option OwnWindow) → IsSomeAnd o (IsAtRest tree mote) → IsSome o
+  some_rest : (tree : Tree) (mote : LoneMote Node Line) (o : Option OwnWindow) → IsSomeAnd o (IsBetweenWindows tree mote) → IsSome o
   some_rest tree mote None h = absurd h
   some_rest tree mote (Some x) h = refl
 
-  no_copies : (tree : Tree) (mote : LoneMote Node Line) (o : Option OwnWindow) → IsSomeAnd o (IsAtRest tree mote) → copies_of o ≡ []
+  no_copies : (tree : Tree) (mote : LoneMote Node Line) (o : Option OwnWindow) → IsSomeAnd o (IsBetweenWindows tree mote) → held_copies o ≡ []
   no_copies tree mote None h = refl
   no_copies tree mote (Some x) h = h.no_copies
 
-  not_called : (tree : Tree) (mote : LoneMote Node Line) (o : Option OwnWindow) → IsSomeAnd o (IsAtRest tree mote) → is_called o ≡ false
+  not_called : (tree : Tree) (mote : LoneMote Node Line) (o : Option OwnWindow) → IsSomeAnd o (IsBetweenWindows tree mote) → is_called o ≡ false
   not_called tree mote None h = refl
   not_called tree mote (Some x) h = h.not_called
 
@@ -97,7 +97,7 @@ module _ (n : NetModel) (owners : List ℕ) (until : ℕ) (share : Share) (arriv
     there = every_weaker (λ item. own (mote_of item) ≡ true) _ (λ item h. some_rest (tree_at n (mote_of item)) (ready.motes (mote_of item)) (mote_here share.motes.items (mote_of item)) (ready.keeps.rests (mote_of item) h)) base base_own;
     none = λ k. elim (cases_Bool (own k)) [
       | inl h ↦ no_copies (tree_at n k) (ready.motes k) (mote_here share.motes.items k) (ready.keeps.rests k h)
-      | inr e ↦ ap copies_of (ready.keeps.elsewhere k e)
+      | inr e ↦ ap held_copies (ready.keeps.elsewhere k e)
     ];
     not_called = λ k. elim (cases_Bool (own k)) [
       | inl h ↦ not_called (tree_at n k) (ready.motes k) (mote_here share.motes.items k) (ready.keeps.rests k h)
@@ -115,7 +115,7 @@ module _ (n : NetModel) (owners : List ℕ) (until : ℕ) (share : Share) (arriv
     pub are_called : AreCalled n called taken
     are_called = record { places = takes.places ∙ ready.keeps.places; there = all_among (λ k. k < length n.motes) called (λ k e. own_in_net k (called_own k e)) }
 
-    one_fits : (k : ℕ) → own k ≡ true → (a b c : Option OwnWindow) → IsSomeAnd a (IsAtRest (tree_at n k) (ready.motes k)) → IsSameMote a b → MayEnd (tree_at n k) until b c → IsSomeAnd c (IsFitOwn n owners share.worker until k)
+    one_fits : (k : ℕ) → own k ≡ true → (a b c : Option OwnWindow) → IsSomeAnd a (IsBetweenWindows (tree_at n k) (ready.motes k)) → IsSameMote a b → MayEnd (tree_at n k) until b c → IsSomeAnd c (IsFitOwn n owners share.worker until k)
     one_fits k h None b c rests kept ends = absurd rests
     one_fits k h (Some x) None c rests kept ends = absurd kept
     one_fits k h (Some x) (Some y) None rests kept ends = absurd ends
@@ -144,7 +144,7 @@ module _ (n : NetModel) (owners : List ℕ) (worker from until : ℕ) (motes : M
   abbrev pub boxes : ℕ → List RadioCopy
   boxes = window_copies n owners worker from until motes taken arrived old keeps le come
 
-  one_goes_on : (k : ℕ) → mine k ≡ true → (a b : Option OwnWindow) → IsSomeAnd a (IsAtRest (tree_at n k) (motes k)) → IsSameMote a b → TakesCopiesFor until all_items k (copies_of b) → CanMoteGoOn (tree_at n k) until b
+  one_goes_on : (k : ℕ) → mine k ≡ true → (a b : Option OwnWindow) → IsSomeAnd a (IsBetweenWindows (tree_at n k) (motes k)) → IsSameMote a b → TakesCopiesFor until all_items k (held_copies b) → CanMoteGoOn (tree_at n k) until b
   one_goes_on k h None b rests kept copies = absurd rests
   one_goes_on k h (Some x) None rests kept copies = absurd kept
   one_goes_on k h (Some x) (Some y) rests kept copies =
@@ -168,7 +168,7 @@ module _ (n : NetModel) (owners : List ℕ) (worker from until : ℕ) (motes : M
     | inr e ↦ none_goes_on (tree_at n k) (mote_here now k) (still_none (mote_here old.motes.items k) (mote_here now k) (keeps.elsewhere k e) (takes.same k))
   ]
 
-  one_back : (k : ℕ) → mine k ≡ true → (a b c : Option OwnWindow) → IsSomeAnd a (IsAtRest (tree_at n k) (motes k)) → IsSameMote a b → TakesCopiesFor until all_items k (copies_of b) → MayEnd (tree_at n k) until b c
+  one_back : (k : ℕ) → mine k ≡ true → (a b c : Option OwnWindow) → IsSomeAnd a (IsBetweenWindows (tree_at n k) (motes k)) → IsSameMote a b → TakesCopiesFor until all_items k (held_copies b) → MayEnd (tree_at n k) until b c
       → HasRun n owners worker from until motes boxes k c
   one_back k h None b c rests kept copies ends = absurd rests
   one_back k h (Some x) None c rests kept copies ends = absurd kept
@@ -202,7 +202,7 @@ module _ (n : NetModel) (owners : List ℕ) (worker from until : ℕ) (motes : M
       is_worker = is_worker ∙ keeps.is_worker;
       places = ends.places ∙ (takes.places ∙ keeps.places);
       numbers = λ k h. keeps.numbers k (parts k h).0;
-      rests = λ k h. subst (λ (o : Option OwnWindow). IsSomeAnd o (IsAtRest (tree_at n k) (motes k))) (sym (unchanged k (not_one k h))) (keeps.rests k (parts k h).0);
+      rests = λ k h. subst (λ (o : Option OwnWindow). IsSomeAnd o (IsBetweenWindows (tree_at n k) (motes k))) (sym (unchanged k (not_one k h))) (keeps.rests k (parts k h).0);
       elsewhere = λ k e. unchanged k (not_called k e) ∙ keeps.elsewhere k e;
       wakes = λ k h. keeps.wakes k (parts k h).0;
       quiet = λ k h. quiet_else n owners worker from until motes taken arrived old keeps le come k (parts k h).0 (parts k h).1;

@@ -46,9 +46,6 @@ none_calls until u m k h = grind (arith, nat_tests)
 due_elsewhere : (u k s j t m : ℕ) → ((s ≡ t) × (j ≡ m) → ⊥) → (eqb u s && eqb k j) ≡ true → not (eqb u t && eqb k m) ≡ true
 due_elsewhere u k s j t m ne e = grind (arith, nat_tests)
 
-due_gone : (u k t m : ℕ) → (eqb u t && eqb k m) ≡ true → not (eqb u t && eqb k m) ≡ false
-due_gone u k t m e = rw e refl
-
 then_later : (u k t m : ℕ) → (ltb t u || (eqb u t && not (ltb k m))) ≡ true → not (eqb u t && eqb k m) ≡ true → k ≡ m → t < u
 then_later u k t m h e f = grind (arith, nat_tests)
 

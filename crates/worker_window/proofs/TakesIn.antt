@@ -6,7 +6,7 @@ use Rattle.mote_net.specs.Net.{NetModel}
 use Rattle.net_agenda.specs.declared.agenda.Agenda.{Agenda}
 use Rattle.net_agenda.specs.Buckets.{HoldsItems}
 use Rattle.window_laws.specs.Agenda.{Packet}
-use Rattle.worker_cut.specs.Crossed.{is_own, IsExpected}
+use Rattle.copy_exchange.specs.Crossed.{is_own, IsExpected}
 use Rattle.worker_window.specs.declared.share.Share.{Share}
 use Rattle.worker_window.specs.Share.{Motes, IsWholeShare}
 use Rattle.worker_window.proofs.Items.{all_wakes}

@@ -6,7 +6,7 @@ use Rattle.mote_node.specs.Turn.{Node}
 use Rattle.window_laws.specs.Windows.{LoneMote}
 use Rattle.trace_lines.specs.declared.line.Line.{Line}
 use Rattle.worker_window.specs.declared.own.OwnWindow.{OwnWindow}
-use Rattle.worker_window.specs.Share.{IsAtRest, mote_here, trace_in}
+use Rattle.worker_window.specs.Share.{IsBetweenWindows, mote_here, trace_in}
 
 abbrev pub lines_in : Vec Line Global → List Line
 lines_in trace = trace.items
@@ -24,6 +24,6 @@ all_kept [] (m ∷ motes) e = cc
 all_kept (t ∷ traces) [] e = cc
 all_kept (t ∷ traces) (m ∷ motes) e = let f : map lines_in traces ≡ map trace_in motes = cc in let same = all_kept traces motes f in omega arith
 
-pub rest_lines : (tree : Tree) (mote : LoneMote Node Line) (o : Option OwnWindow) → IsSomeAnd o (IsAtRest tree mote) → trace_in o ≡ mote.lines
+pub rest_lines : (tree : Tree) (mote : LoneMote Node Line) (o : Option OwnWindow) → IsSomeAnd o (IsBetweenWindows tree mote) → trace_in o ≡ mote.lines
 rest_lines tree mote None h = absurd h
 rest_lines tree mote (Some own) h = h.holds.lines

@@ -13,12 +13,12 @@ use Rattle.worker_window.specs.Own.{KeepsMote}
 use Rattle.worker_window.specs.Share.{mote_here}
 
 -- the copies for a mote that its window has
-abbrev pub copies_of : Option OwnWindow → List RadioCopy
-copies_of None = []
-copies_of (Some own) = own.copies.items
+abbrev pub held_copies : Option OwnWindow → List RadioCopy
+held_copies None = []
+held_copies (Some own) = own.copies.items
 
 abbrev pub copies_at : List (Option OwnWindow) → (mote : ℕ) → List RadioCopy
-copies_at motes mote = copies_of (mote_here motes mote)
+copies_at motes mote = held_copies (mote_here motes mote)
 
 -- the mote has an event in the window
 abbrev pub is_called : Option OwnWindow → Bool

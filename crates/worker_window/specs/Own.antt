@@ -30,7 +30,7 @@ window_in program until w =
 
 -- ---- for any mote, even one that has failed
 -- the pending events of a window, and the mote's lines and packets in it so far
-pub record Course : Type 0 where
+pub record WindowCourse : Type 0 where
   pub program : Tree
   pub until : ℕ
   pub copies : List RadioCopy
@@ -39,7 +39,7 @@ pub record Course : Type 0 where
   pub sends : List Sent
 
 -- the course of the window of an `OwnWindow`, also if the mote has failed
-unfoldable pub course_in : Tree → (until : ℕ) → OwnWindow → Course
+unfoldable pub course_in : Tree → (until : ℕ) → OwnWindow → WindowCourse
 course_in program until w = record {
   program = program;
   until = until;
@@ -51,7 +51,7 @@ course_in program until w = record {
 
 -- a window before its first turn, with the lines that its mote wrote earlier; if the mote has failed, the window has
 -- only copies
-abbrev pub course_of : Tree → (until : ℕ) → (copies : List RadioCopy) → (lines : List Line) → Option Node → Course
+abbrev pub course_of : Tree → (until : ℕ) → (copies : List RadioCopy) → (lines : List Line) → Option Node → WindowCourse
 course_of program until copies lines mote = record {
   program = program;
   until = until;
@@ -62,23 +62,23 @@ course_of program until copies lines mote = record {
 }
 
 -- there are no more events before the bound
-abbrev pub IsSpent : Course → Type 0
+abbrev pub IsSpent : WindowCourse → Type 0
 IsSpent c = IsQuiet c.until c.wake c.copies
 
 -- the next event is at this moment, before the bound
-pub record ComesNext (moment : ℕ) (c : Course) : Type 0 where
+pub record ComesNext (moment : ℕ) (c : WindowCourse) : Type 0 where
   pub next : IsNextOf moment c.wake c.copies
   pub in_window : moment < c.until
 
 -- a mote that has failed, with its earlier lines and packets
-pub record StaysFailed (c : Course) (out : WindowOut) : Type 0 where
+pub record StaysFailed (c : WindowCourse) (out : WindowOut) : Type 0 where
   pub failed : node_in c.program out.mote ≡ None
   pub wake : out.wake ≡ c.wake
   pub lines : out.lines.items ≡ c.lines
   pub sends : out.sends.items ≡ c.sends
 
 -- the result of a mote that had failed, if there is no further event for it
-pub record GivesNoMore (c : Course) (out : WindowOut) : Type 0 where
+pub record GivesNoMore (c : WindowCourse) (out : WindowOut) : Type 0 where
   pub spent : IsSpent c
   pub left : StaysFailed c out
 
@@ -108,7 +108,7 @@ pub record Rests (old new : OwnWindow) : Type 0 where
   pub sends : new.sends.items ≡ []
 
 -- a window before its first turn, with these copies
-pub record IsNew (mote : Mote) (copies : List RadioCopy) (own : OwnWindow) : Type 0 where
+pub record IsNewWindow (mote : Mote) (copies : List RadioCopy) (own : OwnWindow) : Type 0 where
   pub mote_is : own.mote ≡ mote
   pub wake : (program : Tree) → own.wake ≡ wake_in (node_in program mote)
   pub pending : own.pending ≡ own.wake

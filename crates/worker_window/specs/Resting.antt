@@ -9,7 +9,7 @@ use Rattle.net_agenda.specs.Changes.{without_wakes}
 use Rattle.worker_window.specs.declared.own.OwnWindow.{OwnWindow}
 use Rattle.worker_window.specs.declared.share.Share.{Share}
 use Rattle.worker_window.specs.Log.{packets_in, HaveFates}
-use Rattle.worker_cut.specs.Crossed.{is_own, is_for_others}
+use Rattle.copy_exchange.specs.Crossed.{is_own, is_for_others}
 use Rattle.worker_window.specs.Own.{Rests}
 use Rattle.worker_window.specs.Share.{wake_from}
 

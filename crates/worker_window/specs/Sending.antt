@@ -6,7 +6,7 @@ use Rattle.radio_packet.specs.declared.fate.Fate.{Fate}
 use Rattle.radio_packet.specs.declared.copy.RadioCopy.{RadioCopy}
 use Rattle.radio_medium.specs.Medium.{copy_of}
 use Rattle.window_laws.specs.Agenda.{Item, Packet}
-use Rattle.worker_cut.specs.Crossed.{is_own, is_for_others}
+use Rattle.copy_exchange.specs.Crossed.{is_own, is_for_others}
 
 -- the copies for the worker's own motes
 abbrev pub own_items : (owners : List ℕ) → (worker : ℕ) → Sent → List Fate → List Item

@@ -12,9 +12,9 @@ use Rattle.window_laws.specs.Agenda.{Item, is_wake_of, packets, wake_items}
 use Rattle.window_laws.specs.Windows.{LoneMote, NoneBefore, is_from_sender, is_sent_by}
 use Rattle.net_agenda.specs.Buckets.{Buckets, HoldsItems}
 use Rattle.net_agenda.specs.NetSystem.{first_node_in, tree_at, system_of}
-use Rattle.worker_cut.specs.Crossed.{is_own, copies_seen}
+use Rattle.copy_exchange.specs.Crossed.{is_own, copies_seen}
 use Rattle.worker_window.specs.MoteWindow.{node_number}
-use Rattle.worker_window.specs.Own.{IsNew}
+use Rattle.worker_window.specs.Own.{IsNewWindow}
 use Rattle.worker_window.specs.declared.own.OwnWindow.{OwnWindow}
 use Rattle.worker_window.specs.declared.share.Share.{Share}
 use Rattle.worker_window.specs.Log.{packets_in, HaveFates}
@@ -38,7 +38,7 @@ pub record HoldsMote (tree : Tree) (mote : LoneMote Node Line) (own : OwnWindow)
   pub sends : own.sends.items ≡ []
 
 -- a mote of the share between two windows
-pub record IsAtRest (tree : Tree) (mote : LoneMote Node Line) (own : OwnWindow) : Type 0 where
+pub record IsBetweenWindows (tree : Tree) (mote : LoneMote Node Line) (own : OwnWindow) : Type 0 where
   pub holds : HoldsMote tree mote own
   pub no_copies : own.copies.items ≡ []
   pub not_called : own.called ≡ false
@@ -73,7 +73,7 @@ pub record IsShare (model : NetModel) (owners : List ℕ) (worker : ℕ) (here :
   pub places : length share.motes.items ≡ length model.motes
   pub numbers : (k : ℕ) → here k ≡ true → node_number (motes k).state ≡ k
   pub rests : (k : ℕ) → here k ≡ true
-      → IsSomeAnd (mote_here share.motes.items k) (IsAtRest (tree_at model k) (motes k))
+      → IsSomeAnd (mote_here share.motes.items k) (IsBetweenWindows (tree_at model k) (motes k))
   pub elsewhere : (k : ℕ) → is_own owners worker k ≡ false → mote_here share.motes.items k ≡ None
   pub wakes : (k : ℕ) → here k ≡ true → (motes k).wake ≡ wake_of (motes k).state
   pub quiet : (k : ℕ) → here k ≡ true → NoneBefore from (motes k).wake
@@ -89,18 +89,10 @@ abbrev pub IsWholeShare : NetModel → (owners : List ℕ) → (worker from : �
 IsWholeShare model owners worker from motes taken share = IsShare model owners worker
     (is_own owners worker) from motes taken share
 
--- the share of some worker at some moment
-pub record IsKept (model : NetModel) (owners : List ℕ) (share : Share) : Type 0 where
-  pub worker : ℕ
-  pub from : ℕ
-  pub motes : Motes
-  pub taken : List RadioCopy
-  pub keeps : IsWholeShare model owners worker from motes taken share
-
 -- a mote before its first turn
-pub record IsFirst (model : NetModel) (number : ℕ) (own : OwnWindow) : Type 0 where
+pub record IsBeforeFirstTurn (model : NetModel) (number : ℕ) (own : OwnWindow) : Type 0 where
   pub node : node_in (tree_at model number) own.mote ≡ Some (first_node_in model number)
-  pub new : IsNew own.mote [] own
+  pub new : IsNewWindow own.mote [] own
 
 -- the share has the worker's motes and no others
 abbrev pub IfOwn : (own : Bool) → Option OwnWindow → (OwnWindow → Type 0) → Type 0

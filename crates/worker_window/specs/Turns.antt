@@ -7,7 +7,7 @@ use Rattle.mote_node.specs.Turn.{is_past}
 use Rattle.worker_window.specs.declared.out.WindowOut.{WindowOut}
 use Rattle.worker_window.specs.declared.own.OwnWindow.{OwnWindow}
 use Rattle.worker_window.specs.Laws.{IsAhead}
-use Rattle.worker_window.specs.Own.{window_in, Course, course_in, ComesNext, GivesNoMore}
+use Rattle.worker_window.specs.Own.{window_in, WindowCourse, course_in, ComesNext, GivesNoMore}
 use Rattle.worker_window.specs.MoteWindow.{Window, HasTurn, IsOver, window_after_turn}
 use Rattle.worker_window.specs.Out.{shown, Gives}
 
@@ -57,7 +57,7 @@ abbrev pub IsRefusal : MoteError → Type 0
 IsRefusal e = (e ≡ Failed) ⊎ (e ≡ Memory)
 
 -- the error of the window's first turn; if the mote had failed, the error of the first turn that it would have taken
-pub record IsFirstError (course : Course) (window : Option Window) (e : MoteError) : Type 0 where
+pub record IsFirstError (course : WindowCourse) (window : Option Window) (e : MoteError) : Type 0 where
   pub moment : ℕ
   pub awaited : ComesNext moment course
   pub left : IfSome window (HasTurn moment)

@@ -5,8 +5,8 @@ use Rattle.radio_packet.specs.declared.copy.RadioCopy.{RadioCopy}
 use Rattle.mote_net.specs.Net.{NetModel}
 use Rattle.window_laws.specs.Windows.{Alone, copies_by, is_from_sender}
 use Rattle.net_agenda.specs.NetSystem.{system_of}
-use Rattle.worker_cut.specs.Crossed.{is_for_others, is_own, IsExpected}
-use Rattle.worker_cut.specs.Laws.{IsFromSources}
+use Rattle.copy_exchange.specs.Crossed.{is_for_others, is_own, IsExpected}
+use Rattle.copy_exchange.specs.CutLaws.{IsFromSources}
 use Rattle.worker_window.specs.declared.share.Share.{Share}
 use Rattle.worker_window.specs.Share.{Motes, IsWholeShare}
 

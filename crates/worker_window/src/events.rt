@@ -1,11 +1,11 @@
-//! The events of a window, which are taken out of the agenda and given to the motes.
+//! The events of a window: `window` has them taken out of the agenda, and given to the motes, before it runs these.
 
 ghost use Rattle.std.specs.Prelude.{◌≡◌, true, List, IsSome, IfOk, OnOk, ◌++◌, ◌∷◌, [], map, not, if◌then◌else◌};
 ghost use Rattle.std.specs.List.{filter};
 ghost use Rattle.net_agenda.specs.Buckets.{HoldsItems};
 ghost use Rattle.net_agenda.specs.Items.{copy_at};
 ghost use Rattle.window_laws.specs.Agenda.{Item};
-ghost use Rattle.worker_window.specs.Events.{CanTakeEvents, IsSameMote, TakesEventsBefore, copies_of, is_called};
+ghost use Rattle.worker_window.specs.Events.{CanTakeEvents, IsSameMote, TakesEventsBefore, held_copies, is_called};
 ghost use Rattle.worker_window.specs.Events.{is_not_before};
 ghost use Rattle.worker_window.specs.MoteWindow.{is_rising};
 
@@ -22,8 +22,8 @@ fn give(
     arrivals: &[Arrival],
 ) -> Result<bool, AllocError>
     requires there { IsSome mote.old }
-    requires rising { is_rising (copies_of mote.old ++ map (copy_at moment number) arrivals.now) ≡ true }
-    ensures given { OnOk result (copies_of mote.new ≡ copies_of mote.old ++ map (copy_at moment number) arrivals.now) }
+    requires rising { is_rising (held_copies mote.old ++ map (copy_at moment number) arrivals.now) ≡ true }
+    ensures given { OnOk result (held_copies mote.new ≡ held_copies mote.old ++ map (copy_at moment number) arrivals.now) }
     ensures kept { IsSameMote mote.old mote.new }
     ensures first { IfOk result (λ first. first ≡ not (is_called mote.old)) }
     ensures called { OnOk result (is_called mote.new ≡ true) }

@@ -19,6 +19,6 @@ pub use gate::{Gate, NoGate};
 pub use mote_window::MoteWindow;
 pub use out::WindowOut;
 pub use own::OwnWindow;
-pub use share::{Ended, Share};
+pub use share::{EndedShare, Share};
 pub use turn_buffers::TurnBuffers;
 pub use worker::{ShareWindow, run_motes};

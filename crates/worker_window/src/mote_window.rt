@@ -1,4 +1,5 @@
-//! The window of a mote as a future: each poll takes one turn.
+//! The window of a mote as a future, for callers who have one mote: each poll takes one turn. It polls `own::OwnWindow`, as
+//! the future of a worker does.
 
 ghost use Rattle.std.specs.Prelude.{◌≡◌, ◌≤◌, ◌^◌, [], true, Some, None, IsSome, IsSomeAnd, IfSome, IfOk, IfErr, ⊤};
 ghost use Rattle.futures.specs.Poll.{IfReady, OnPending};

@@ -1,4 +1,4 @@
-//! The result of a mote's window.
+//! The result of a single mote's window (`mote_window`).
 
 use mote_node::Mote;
 use process_kernel::Line;

@@ -1,4 +1,4 @@
-//! The state of one mote's window.
+//! The state of one mote's window, and one poll of it. `worker` polls the windows of a share, and `mote_window` a single one.
 
 ghost use Rattle.std.specs.Prelude.{◌≡◌, ◌≤◌, ◌^◌, ◌++◌, ℕ, true, not, Some, map, vec_len};
 ghost use Rattle.std.specs.Prelude.{IfErr, IfSome, MatchOption, OnErr, OnOk, None, []};
@@ -60,7 +60,7 @@ impl Drop for OwnWindow {
 
 impl OwnWindow {
     ghost use Rattle.worker_window.specs.Out.{out_of};
-    ghost use Rattle.worker_window.specs.Own.{window_in, course_in, course_of, IsSpent, ComesNext, IsFinished, IsNew};
+    ghost use Rattle.worker_window.specs.Own.{window_in, course_in, course_of, IsSpent, ComesNext, IsFinished, IsNewWindow};
     ghost use Rattle.worker_window.specs.Own.{KeepsMote, Rests};
     ghost use Rattle.worker_window.specs.Turns.{TurnsTo, IsErrorAt, IsFirstError, IsFirstTurn, IsRefusal};
 
@@ -73,7 +73,7 @@ impl OwnWindow {
             ≡ opened p until copies.items [] (node_in p mote) }
         ensures course { (p : Tree) (until : ℕ) → course_in p until result
             ≡ course_of p until copies.items [] (node_in p mote) }
-        ensures made { IsNew mote copies.items result }
+        ensures made { IsNewWindow mote copies.items result }
     {
         let wake = mote.wake();
         OwnWindow {

@@ -10,17 +10,17 @@ ghost use Rattle.mote_net.specs.Meaning.{net_of};
 ghost use Rattle.net_agenda.specs.NetSystem.{system_of};
 ghost use Rattle.net_agenda.specs.Changes.{AddsItems};
 ghost use Rattle.worker_window.specs.Next.{TellsNext};
-ghost use Rattle.worker_window.specs.Share.{Motes, IsFirst, IfOwn, IsWholeShare, trace_in};
+ghost use Rattle.worker_window.specs.Share.{Motes, IsBeforeFirstTurn, IfOwn, IsWholeShare, trace_in};
 ghost use Rattle.worker_window.specs.Ended.{TellsAtEnd};
 
 use crate::own::OwnWindow;
 use crate::turn_buffers::TurnBuffers;
+use copy_exchange::is_own;
 use mote_net::{LogLine, Net};
 use net_agenda::{Agenda, new_mote};
 use process_kernel::Line;
 use radio_packet::Arrival;
 use std::alloc::{AllocError, Global};
-use worker_cut::is_own;
 
 /// The data of one worker of a net. It has the windows of the worker's motes, with their traces, by the motes' numbers;
 /// for a mote of another worker, it has none. It also has the packets of its motes, in order for each mote; the pending
@@ -55,7 +55,7 @@ impl Drop for Share {
 /// The results of a worker at the end: the traces of its motes, by number; the packets that they sent, in order for
 /// each mote; and the number of copies that are still on their way to them, without those in the worker's inbox.
 #[derive(Drop)]
-pub struct Ended {
+pub struct EndedShare {
     pub traces: Vec<Vec<Line>>,
     pub log: Vec<LogLine>,
     pub left: u64,
@@ -70,7 +70,7 @@ fn begin(
     agenda: &mut Agenda,
 ) -> Result<Option<OwnWindow>, AllocError>
     requires mote_exists { number < length (net_of net.now).motes }
-    ensures mote { IfOk result (λ mote. IfOwn own mote (IsFirst (net_of net.now) number)) }
+    ensures mote { IfOk result (λ mote. IfOwn own mote (IsBeforeFirstTurn (net_of net.now) number)) }
     ensures wake { OnOk result
         (AddsItems agenda.old.buckets agenda.new.buckets (if own then Wake 0 number ∷ [] else [])) }
 {
@@ -126,7 +126,7 @@ impl Share {
     /// # Errors
     /// `AllocError` if the allocation for the list of traces fails, or for a number of copies above `u64::MAX`. No
     /// memory has room for so many copies.
-    pub fn end(self) -> Result<Ended, AllocError>
+    pub fn end(self) -> Result<EndedShare, AllocError>
         ensures tells_at_end { (model : NetModel) (owners : List ℕ) (worker from : ℕ) (motes : Motes)
             (taken : List RadioCopy)
             → IsWholeShare model owners worker from motes taken self
@@ -144,7 +144,7 @@ impl Share {
         } = self;
         let traces = traces_of(alloc, motes)?;
         let left = agenda.left()?;
-        Ok(Ended { traces, log, left })
+        Ok(EndedShare { traces, log, left })
     }
 }
 

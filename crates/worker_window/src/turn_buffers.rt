@@ -1,4 +1,4 @@
-//! Scratch buffers of a worker's turns.
+//! Scratch buffers of turns: those of a share serve the windows of all its motes, one after another.
 
 use process_kernel::Out;
 use radio_packet::Arrival;

@@ -1,4 +1,4 @@
-//! The motes of a worker in a window: they take in their copies, run, and come to rest.
+//! A window of a share, which `window_workers` runs for each worker: the motes take in their copies, run, and come to rest.
 
 ghost use Rattle.std.specs.Prelude.{◌≡◌, ◌<◌, ◌≤◌, ◌^◌, ◌++◌, ◌∷◌, ◌==◌, ℕ, true, [], length};
 ghost use Rattle.std.specs.Prelude.{◌≢◌, map, IfErr, IfOk, IfSome, IsSomeAnd, OnOk};
@@ -8,7 +8,7 @@ ghost use Rattle.radio_medium.specs.Medium.{copies};
 ghost use Rattle.window_laws.specs.Agenda.{Packet};
 ghost use Rattle.net_agenda.specs.Changes.{AddsItems};
 ghost use Rattle.mote_net.specs.Meaning.{net_of};
-ghost use Rattle.worker_cut.specs.Crossed.{is_own, is_for_others};
+ghost use Rattle.copy_exchange.specs.Crossed.{is_own, is_for_others};
 ghost use Rattle.worker_window.specs.Share.{mote_here, wake_from};
 ghost use Rattle.worker_window.specs.Window.{CanRun, IsOutgoing, RunsThrough, TakesIn};
 ghost use Rattle.worker_window.specs.Log.{HaveFates, packets_in};
@@ -19,6 +19,7 @@ use crate::events::take_events_before;
 use crate::gate::Gate;
 use crate::share::Share;
 use crate::worker::run_motes;
+use copy_exchange::is_own;
 use fork_join::WorkerError;
 use mote_net::{LogLine, Net};
 use net_agenda::Agenda;
@@ -29,7 +30,6 @@ use std::mem;
 use std::random::RandomSource;
 use std::slice::from_ref;
 use std::sync::Wait;
-use worker_cut::is_own;
 
 /// Returns the wake, unless it is before a moment.
 fn wake_from(until: u64, wake: Option<u64>) -> Option<u64>

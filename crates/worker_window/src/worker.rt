@@ -1,4 +1,4 @@
-//! The future of a worker over the windows of its motes.
+//! The future over the windows of a share's motes, and the executor that runs it for `window`.
 
 ghost use Rattle.std.specs.Prelude.{◌≡◌, ◌≢◌, ◌≤◌, ◌^◌, List, Option, IfOk, IfErr, OnOk, Ok, false, length};
 ghost use Rattle.mote_node.specs.declared.mote.MoteError.TheVariants.{Memory};

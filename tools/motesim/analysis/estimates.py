@@ -12,7 +12,8 @@ from collections.abc import Sequence
 from functools import lru_cache
 from typing import NamedTuple
 
-STEPS, TINY = 200, 1e-300
+# The halvings after which an angle is exact.
+STEPS = 60
 
 
 class Estimate(NamedTuple):
@@ -53,36 +54,20 @@ def share_by_wilson(values: Sequence[float], confidence: float) -> Estimate:
 @lru_cache(maxsize=None)
 def student_t(confidence: float, freedom: int) -> float:
     """The number of standard errors on each side of a mean with this confidence (0.95), by Student's t."""
-    low, high = 0.0, 1e6
+    low, high = 0.0, math.pi / 2
     for _ in range(STEPS):
         middle = (low + high) / 2
-        outside = _beta(freedom / 2, 0.5, freedom / (freedom + middle * middle))
-        low, high = (middle, high) if outside > 1 - confidence else (low, middle)
-    return high
+        low, high = (middle, high) if _within(middle, freedom) < confidence else (low, middle)
+    return math.sqrt(freedom) * math.tan(high)
 
 
-def _beta(a: float, b: float, x: float) -> float:
-    """The regularised incomplete beta function."""
-    if x <= 0 or x >= 1:
-        return float(x >= 1)
-    front = math.exp(math.lgamma(a + b) - math.lgamma(a) - math.lgamma(b) + a * math.log(x) + b * math.log1p(-x))
-    if x < (a + 1) / (a + b + 2):
-        return front * _fraction(a, b, x) / a
-    return 1 - front * _fraction(b, a, 1 - x) / b
-
-
-def _fraction(a: float, b: float, x: float) -> float:
-    """The continued fraction of the incomplete beta function (Lentz's method)."""
-    c, d = 1.0, 1 - (a + b) * x / (a + 1)
-    d = 1 / (d if abs(d) > TINY else TINY)
-    found = d
-    for m in range(1, STEPS):
-        for part in (m * (b - m) * x / ((a + 2 * m - 1) * (a + 2 * m)),
-                     -(a + m) * (a + b + m) * x / ((a + 2 * m) * (a + 2 * m + 1))):
-            d, c = 1 + part * d, 1 + part / c
-            d = 1 / (d if abs(d) > TINY else TINY)
-            c = c if abs(c) > TINY else TINY
-            found *= d * c
-        if abs(d * c - 1) < 1e-15:
-            break
-    return found
+def _within(angle: float, freedom: int) -> float:
+    """The chance that a value of Student's t is at most the root of `freedom` times the tangent of an angle away from 0
+    (M. Abramowitz and I. A. Stegun, "Handbook of Mathematical Functions", 1964, 26.7.3 and 26.7.4)."""
+    sine, square, first = math.sin(angle), math.cos(angle) ** 2, freedom % 2
+    term = math.cos(angle) if first else 1.0
+    total = 0.0
+    for number in range(first + 1, freedom, 2):
+        total += term
+        term *= square * number / (number + 1)
+    return 2 / math.pi * (angle + sine * total) if first else sine * total

@@ -5,8 +5,8 @@ from typing import TYPE_CHECKING
 
 from motesim.faults import Fault
 from motesim.causes.command import answer_of
-from motesim.causes.pages import source_of
 from motesim.causes.question import Asker
+from motesim.causes.source import source_of
 
 if TYPE_CHECKING:
     from motesim.report.run import Run

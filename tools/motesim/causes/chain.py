@@ -68,7 +68,7 @@ def wait_of(link: Link, at: int, before: int) -> str:
         return 'full' if at > max(link.since + link.interval, link.since) else 'timer'
     if link.how == 'medium':
         return 'medium'
-    return 'queue' if at > before else ''
+    return 'queue' if at > before and link.how != 'boots' else ''
 
 
 def chain(source: Source, where: At) -> list[Hop]:

@@ -13,13 +13,11 @@ from motesim.judge.several import read_all
 from motesim.judge.verdicts import breaks
 from motesim.scenario.fault_text import faults_asked
 from motesim.causes.chain import Hop, chain, path_of
-from motesim.causes.diverge import diverged
 from motesim.causes.miss import misses
 from motesim.causes.question import Asked, Asker, Missing, Unasked
 from motesim.causes.say import (about, chain_as_json, heading, misses_as_json, of_path, on_values, rows_of_chain,
-                             rows_of_misses, rows_of_state, rows_of_two, rows_of_values, state_as_json, values_as_json,
-                             words_of)
-from motesim.causes.source import Source, read_source
+                                rows_of_misses, rows_of_state, rows_of_values, state_as_json, values_as_json, words_of)
+from motesim.causes.source import Source, read_with_fields, source_of
 from motesim.causes.state import read_state
 from motesim.causes.watch import read_watch, replayed
 
@@ -68,50 +66,11 @@ def show_state(source: Source, asked: argparse.Namespace) -> int:
     return 0
 
 
-def answered(asker: Asker, asked: argparse.Namespace) -> Asked | Missing:
-    """The answer to a question about a run. If there are two runs, an error names the file."""
-    try:
-        return asker.about(asked.question)
-    except Fault as fault:
-        if asked.other is None:
-            raise
-        raise Fault('%s: %s' % (asker.source.name, fault)) from None
-
-
-def of_first(asker: Asker, other: Asker, question: str) -> Asked | None:
-    """The line in another run of the first mote that has it there and lacks it in this run. None if the question isn't
-    a sentence about motes, or if no such mote has the line in the other run."""
-    for one in asker.lacking(asker.read(question)):
-        if all(mote < other.traces.motes for mote in other.finder.chosen(one.motes)):
-            found = None if breaks([one], other.finder)[0] else other.answer(one)
-            if isinstance(found, Asked):
-                return found
-    return None
-
-
-def show_other(asker: Asker, missing: Missing, asked: argparse.Namespace) -> None:
-    """Shows the point at which a run leaves the chain of another run, in which the line exists."""
-    source, other = asker.source, read_source(asked.other, asked.other_scenario)
-    there = Asker(other)
-    found = answered(there, asked)
-    first = of_first(asker, there, asked.question)
-    print()
-    if first and first.where.mote != missing.motes[0]:
-        print('%s does not have the line of mote %d either.' % (other.name, missing.motes[0]))
-    found = first or found
-    if isinstance(found, Asked):
-        print('%s has the line: mote %d, line %d: %s' % (other.name, found.where.mote, other.traces.row(found.where),
-                                                         other.traces.text(found.where)))
-        print('\n'.join(rows_of_two(other, source, diverged(other, source, found.where))))
-    else:
-        print('%s does not have the line either: %s' % (other.name, found.remark))
-
-
 def show_why(source: Source, asked: argparse.Namespace) -> int:
     """Shows a chain, or the near misses."""
     asker = Asker(source)
     try:
-        found = answered(asker, asked)
+        found = asker.about(asked.question)
     except Unasked as unasked:
         if not unasked.holds:
             raise
@@ -122,13 +81,8 @@ def show_why(source: Source, asked: argparse.Namespace) -> int:
         near = misses(asker, found)
         print(json.dumps({'question': asked.question, **misses_as_json(source, found, near)}, indent=1) if asked.json
               else '\n'.join(rows_of_misses(source, found, near)))
-        if asked.other is not None:
-            show_other(asker, found, asked)
         return 1
-    if asked.other is not None:
-        other = read_source(asked.other, asked.other_scenario)
-        print('\n'.join(rows_of_two(source, other, diverged(source, other, found.where))))
-    elif asked.json:
+    if asked.json:
         hops = chain(source, found.where)
         print(json.dumps({'question': asked.question, 'holds': found.holds, 'about': about(source, found) or None,
                           **chain_as_json(source, hops)}, indent=1))
@@ -151,12 +105,10 @@ def broken_beside(source: Source, path: Path) -> str:
 
 def status_of(asked: argparse.Namespace) -> int:
     """The work of tools/why; returns the status."""
-    if asked.json and asked.other is not None:
-        raise Fault('--json and --other can\'t be combined')
     given = [it for it in (asked.question, asked.watch, asked.state) if it is not None]
     if len(given) > 1:
         raise Fault('only one question is allowed: an expectation, a line, --watch or --state')
-    source = read_source(asked.file, asked.scenario, faults_asked(asked))
+    source = source_of(read_with_fields(asked.file, asked.scenario, faults_asked(asked)))
     if not given:
         asked.question = broken_beside(source, beside(Path(asked.scenario or asked.file)))
         print(asked.question, end='\n\n', file=sys.stderr if asked.json else sys.stdout)

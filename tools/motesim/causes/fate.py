@@ -6,16 +6,15 @@ from typing import NamedTuple
 from motesim.report import OUTCOMES
 from motesim.causes.source import At, Source
 
-# Fates that are kinds of another one: a mote halted before its radio process ran, or before a process took the event;
-# an event for all passed a process that wasn't on the process list.
-KINDS = {'unhandled': 'halted', 'untaken': 'halted', 'passed': 'dropped'}
+# Fates that are kinds of another one: a mote halted before its radio process ran, or before a process took the event.
+KINDS = {'unhandled': 'halted', 'untaken': 'halted'}
 
 
 class Fate(NamedTuple):
     """The fate of a copy.
 
     what     taken, dropped, waiting (in the queue at the end), full, deaf, overflowed, collided, lost, halted, left,
-             unheard, or one of KINDS
+             unheard, forgotten (the mote booted again), or one of KINDS
     at       the moment at which the fate was decided
     where    the line of a trace that shows the fate; None if no line shows it
     row      the number of the line in the report that shows the fate, also a line of the medium
@@ -47,25 +46,18 @@ def _shown(source: Source, what: str, where: At, process: str = '') -> Fate:
     return Fate(what, source.traces.moment(where), where, source.traces.row(where), process)
 
 
-def after_post(source: Source, post: At, process: str = '') -> Fate:
-    """The fate of an event that was posted. An event for all has a fate for each process, so `process` names one."""
+def after_post(source: Source, post: At) -> Fate:
+    """The fate of an event that was posted to the receiver."""
     lines = source.traces.lines(post.mote)
-    serial, walked = lines[post.place].serial, -1
     for place in range(post.place + 1, len(lines)):
         line = lines[place]
-        if line.kind not in ('take', 'drop'):
-            continue
-        if line.serial == serial and process in ('', line.process):
+        if line.kind == 'boots':
+            return _shown(source, 'forgotten', At(post.mote, place))
+        if line.kind in ('take', 'drop') and line.serial == lines[post.place].serial:
             what = 'taken' if line.kind == 'take' else 'dropped'
             return _shown(source, what, At(post.mote, place), line.process or '')
-        if line.serial == serial:
-            walked = place
-        elif walked >= 0:
-            return _shown(source, 'passed', At(post.mote, walked), process)
     if lines[-1].kind == 'halt':
         return _shown(source, 'untaken', At(post.mote, len(lines) - 1))
-    if walked >= 0:
-        return _shown(source, 'passed', At(post.mote, walked), process)
     return _shown(source, 'waiting', post)
 
 
@@ -77,6 +69,8 @@ def after_recv(source: Source, recv: At) -> Fate:
             where = At(recv.mote, place)
             kind = source.traces.line(where).kind
             return after_post(source, where) if kind == 'post' else _shown(source, kind, where)
+        if links[place].how == 'boots':
+            return _shown(source, 'forgotten', At(recv.mote, place))
     return _shown(source, 'unhandled', recv)
 
 

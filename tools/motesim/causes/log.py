@@ -17,7 +17,7 @@ from motesim.report.columns import CODES, KINDS
 from motesim.scenario.fault_text import faults_asked
 from motesim.scenario.fields import Field, of_line
 from motesim.causes.question import Asker
-from motesim.causes.source import Source, read_traces
+from motesim.causes.source import Source, read_with_fields, source_of
 
 # The kinds of lines with a value, or with an event's word.
 VALUED = {CODES[kind] for kind, fields in FIELDS.items() if {'value', 'word'} & {*fields.split()}}
@@ -48,9 +48,9 @@ class Filter(NamedTuple):
         return sorted(found, key=trace.at.__getitem__)
 
 
-def rows_of(data: bytes, report: Report, lines: Sequence[int]) -> Iterator[Row]:
-    """Lines of a report, whose text is `data`, by their indices."""
-    texts = data.decode('ascii').split('\n')
+def rows_of(report: Report, lines: Sequence[int]) -> Iterator[Row]:
+    """Lines of a report, by their indices."""
+    texts = list(report.rows())
     motes = list(map(report.trace.mote.__getitem__, lines))
     # (a line has the heads of its own mote and of all earlier ones before it)
     rows = [line + mote + 2 for line, mote in zip(lines, motes)]
@@ -111,19 +111,15 @@ def kinds_of(text: str | None) -> tuple[str, ...]:
 def status_of(asked: argparse.Namespace) -> int:
     """The work of tools/log; returns the status."""
     kinds = kinds_of(asked.kind)
-    data, scenario = read_traces(asked.file, asked.scenario, faults_asked(asked))
-    try:
-        report = Report.parse(data)
-    except Fault as fault:
-        raise Fault('%s: %s' % (asked.file, fault)) from None
+    run = read_with_fields(asked.file, asked.scenario, faults_asked(asked))
+    report = run.report
     motes = numbers_of(asked.mote, len(report.motes) - 1, '--mote') if asked.mote is not None else None
     wanted = Filter(motes, kinds, asked.value, (asked.first, asked.last))
-    if asked.sentence is not None and scenario is None:
+    if asked.sentence is not None and run.scenario is None:
         raise Fault('an expectation needs the scenario of the report: --scenario FILE')
-    lines = (wanted.lines(report) if asked.sentence is None or scenario is None else
-             of_sentence(Source(asked.file, data, scenario), asked.sentence, wanted))
+    lines = wanted.lines(report) if asked.sentence is None else of_sentence(source_of(run), asked.sentence, wanted)
     form = 'csv' if asked.csv else 'json' if asked.json else 'text'
-    sys.stdout.writelines(shown(rows_of(data, report, lines), report, form, scenario.fields if scenario else ()))
+    sys.stdout.writelines(shown(rows_of(report, lines), report, form, run.scenario.fields if run.scenario else ()))
     if form == 'text':
         print(sums(report, lines))
     return 0

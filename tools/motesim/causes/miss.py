@@ -11,8 +11,8 @@ from typing import NamedTuple
 from motesim.judge.hearing import unheard
 from motesim.judge.links import Span
 from motesim.judge.meaning import Pattern, Value
-from motesim.replay.mote import Reached, Replay
-from motesim.replay.translate import Around, Program, Statement
+from motesim.replay.mote import DetailedReplay, Reached
+from motesim.replay.program import Around, Program, Statement
 from motesim.report import Line, Packet
 from motesim.causes.fate import Fate, fate_of
 from motesim.causes.question import Asker, Missing
@@ -196,10 +196,10 @@ class _Misses:
 
     @cached_property
     def program(self) -> Program:
-        return self.source.detailed(self.mote)
+        return self.source.program(self.mote)
 
     @cached_property
-    def replay(self) -> Replay:
+    def replay(self) -> DetailedReplay:
         """The mote from its start to its end, with each statement that it reached."""
         return self.source.detailed_replay(self.mote)
 
@@ -207,23 +207,21 @@ class _Misses:
         """The processes that could write the line."""
         return [it.number for it in self.program.processes if self.name in (None, it.name)]
 
-    def own(self) -> Iterator[tuple[int, Statement]]:
-        """The statements that write lines of this kind, by their numbers."""
+    def own(self) -> list[Statement]:
+        """The statements that write lines of this kind."""
         processes = self.processes()
-        for number, it in enumerate(self.program.statements, 1):
-            if it.kind == self.kind and it.process in processes:
-                yield number, it
+        return [it for it in self.program.statements if it.kind == self.kind and it.process in processes]
 
     def able(self) -> list[int]:
         """The statements that could write the line. One whose value is always another one couldn't."""
         values = self.values()
-        return [number for number, it in self.own() if it.constant is None or not values or it.constant in values]
+        return [it.number for it in self.own() if it.constant is None or not values or it.constant in values]
 
     def absent(self) -> Miss | None:
         """The fact that no statement of the program could write the line, if it has none."""
         if self.kind not in ('print', 'send') or not self.processes() or self.able():
             return None
-        return Miss('statement', self.mote, Absent(self.name, self.kind, any(self.own())), is_wanted=True)
+        return Miss('statement', self.mote, Absent(self.name, self.kind, bool(self.own())), is_wanted=True)
 
     def process(self) -> Iterator[Miss]:
         """A process that isn't on the process list at the last moment."""
@@ -266,11 +264,12 @@ class _Misses:
     def waits(self, process: int) -> Iterator[Miss]:
         """Tells at which statement a process waits at the last moment, and how often its condition has been tested
         since it began to wait."""
-        calls = self.replay.calls_of(process, self.end)
-        if not calls or not calls[-1].is_end or not calls[-1].waits or not calls[-1].waits[-1]:
+        statements = next((it.waits for it in reversed(self.replay.calls)
+                           if it.process == process and it.at <= self.end), ())
+        if not statements or not statements[-1]:
             # (it was never called, it ended, or the mote halted during the call)
             return
-        waits = calls[-1].waits[-1]
+        waits = statements[-1]
         here = [it for it in self.replay.reached if it.statement == waits and it.at <= self.end]
         came = max(place for place, it in enumerate(here) if it.holds is None)
         until = None if self.end == self.source.scenario.end else self.end

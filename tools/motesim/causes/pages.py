@@ -10,9 +10,8 @@ from typing import Any
 from motesim.faults import Fault
 from motesim.report.run import Run
 from motesim.causes.chain import cause_of, wait_of
-from motesim.scenario.in_programs import ScenarioFile
 from motesim.causes.say import Reasons
-from motesim.causes.source import At, Source
+from motesim.causes.source import At, Source, source_of
 
 # A page with more lines than this doesn't have their causes: the search for them would last longer than making the
 # page.
@@ -25,14 +24,6 @@ def _packed(column: array[int]) -> str:
         column = column[:]
         column.byteswap()
     return base64.b64encode(zlib.compress(column.tobytes(), 6)).decode('ascii')
-
-
-def source_of(run: Run) -> Source:
-    """The source for questions about a run; one without a scenario has no programs."""
-    if run.scenario is None:
-        raise Fault('Without its scenario, a report doesn\'t say what caused its lines.')
-    file = ScenarioFile(*run.file) if run.file else None
-    return Source(run.name, run.report.text().encode('ascii'), run.scenario, file)
 
 
 class Causes:
@@ -60,7 +51,7 @@ class Causes:
             else:
                 back = begin + place - self.begins[cause.mote] - cause.place
                 self.causes.append(2 * back if back > 0 else -2 * back + 1)
-            if link.how in ('call', 'timer', 'boot'):
+            if link.how in ('call', 'timer', 'boot', 'boots'):
                 at = source.traces.moment(At(mote, place))
                 text = reasons.because(place, link), wait_of(link, at, at - 1) if link.how == 'timer' else ''
                 known = self.texts.get(text)
@@ -80,6 +71,8 @@ def causes_of(run: Run) -> dict[str, Any]:
     if lines > MOST_LINES:
         return {'none': 'A page of more than %s lines does not have their causes: tools/why finds them.' % format(
             MOST_LINES, ',')}
+    if run.scenario is None:
+        return {'none': 'Without its scenario, a report doesn\'t say what caused its lines.'}
     try:
         return Causes(source_of(run)).said()
     except Fault as fault:

@@ -25,11 +25,6 @@ from motesim.causes.source import At, Source, Traces
 
 LINE = re.compile(r'\s*(?:(?:mote\s+)?(\d+)\s*:\s*)?(?:line\s+)?(\d+)\s*', re.I)
 TEXT = re.compile(r'\s*(?:mote\s+)?(\d+)\s*:\s*(\d+ [a-z]+.*?)\s*', re.I)
-BARE = re.compile(r'\s*(\d+ [a-z]+(?: \S+)*)\s*')
-# The words that say that a line isn't there, and what a question about this line has instead.
-NEGATIVE = (re.compile(r'\bnever '), ''), (re.compile(r'^\s*no mote\b'), 'some mote')
-# The kinds of sentences about motes of which each one by itself can have the line or lack it.
-EACH_ITSELF = ('each', 'some', 'count')
 NO_LINE = 'the expectation holds, and no line of a trace shows it'
 
 
@@ -96,16 +91,13 @@ def line_asked(traces: Traces, question: str) -> At | None:
         if text[2] not in traces.texts(mote):
             raise Unasked("mote %d has no line '%s'" % (mote, text[2]))
         return At(mote, traces.texts(mote).index(text[2]))
-    bare = BARE.fullmatch(question)
-    found = next((mote for mote in range(traces.motes) if bare and bare[1] in traces.texts(mote)), None)
-    if bare and found is not None:
-        raise Unasked('a line of a trace is named with its mote, %d: %s, or by its number' % (found, bare[1]))
     return None
 
 
 def needed(count: Count, most: int) -> int:
     """The least number above 0, and up to `most`, that a count admits; 0 if there is none."""
-    return next((it for it in range(1, most + 1) if count.admits(it)), 0)
+    least = max(1, count.least)
+    return least if least <= min(most, most if count.most is None else count.most) else 0
 
 
 class Asker:
@@ -127,15 +119,7 @@ class Asker:
         if packet:
             return packet
         where = line_asked(self.traces, question)
-        if where:
-            return Asked(where)
-        try:
-            return self.answer(self.read(question))
-        except Unasked as unasked:
-            positive = self.positive(question) if unasked.holds else ''
-            if not positive:
-                raise
-            raise Unasked('%s; ask "%s" to see what was missing' % (unasked, positive), True) from None
+        return Asked(where) if where else self.answer(self.read(question))
 
     def of_medium(self, question: str) -> Asked | None:
         """The line that sent a packet, if a question is about the packet's line of the medium."""
@@ -148,18 +132,6 @@ class Asker:
         """The line that sent the packet of a line of the medium."""
         packet = self.traces.medium_line(row)
         return self.traces.send_of(packet.sender, packet.number) if packet else None
-
-    def positive(self, question: str) -> str:
-        """The sentence about a line that a question says isn't there, such as `mote 1 sends` for `mote 1 never sends`;
-        an empty text if this sentence has a line, or if the question is no such sentence."""
-        for negative, other in NEGATIVE:
-            words = negative.sub(other, question, count=1)
-            try:
-                if words != question and isinstance(self.answer(self.read(words)), Missing):
-                    return words
-            except Fault:
-                pass
-        return ''
 
     def answer(self, it: Sentence) -> Asked | Missing:
         """The line by which a sentence holds or is broken. Raises an `Unasked` if there is none."""
@@ -251,15 +223,6 @@ class Asker:
         scenario, motes = self.source.scenario, sorted(it.motes)
         wrong = [mote for mote in motes if scenario.is_open(it.other, mote) != it.can]
         return Unasked('; '.join(hearing(scenario, mote, it.other) for mote in wrong[:1] or motes), not wrong)
-
-    def lacking(self, it: Sentence) -> list[Does]:
-        """For each mote that lacks the line of a sentence about several motes: the same sentence about this mote only.
-
-        The list is empty for other sentences, and for those about several motes together."""
-        if not isinstance(it, Does) or it.motes.kind not in EACH_ITSELF:
-            return []
-        own = self.each(it)
-        return [one for one, broken in zip(own, breaks(own, self.finder)) if broken and broken.lacks]
 
     def each(self, it: Does) -> list[Does]:
         """The same sentence about each mote by itself."""

@@ -9,13 +9,12 @@ from motesim.judge.claim_words import period_text
 from motesim.judge.hearing import unheard
 from motesim.replay.endless import AT_ONCE, LETS_WAIT, MOST_WAITS, Endless, instead
 from motesim.replay.mote import CTIMER, RING, SYSTEM, Frame, Link
-from motesim.replay.translate import Around, Program
+from motesim.replay.program import Around, Program
 from motesim.report import Line
 from motesim.scenario.fault_text import read_faults
 from motesim.scenario.fields import Field, in_words as in_fields, of_line
 from motesim.causes.cause import Cause
 from motesim.causes.chain import Hop, Path, path_of, received_before
-from motesim.causes.diverge import Diverged, Instead, Turn, Twin
 from motesim.causes.fate import Fate
 from motesim.causes.miss import Absent, Away, Miss, Moved, Passed, Unheard, Untaken, Waiting
 from motesim.causes.question import Asked, Missing
@@ -29,7 +28,6 @@ WIDEST = 60
 MOST_MET = 3
 # The calls that have their own line; and the most calls without a line that a reason names.
 HAVE_LINES, MOST_CALLS = ('take', 'init', 'boot'), 8
-MOST_LINES = 6
 OUTCOME_WORDS = {'received': 'arrived', 'lost': 'was lost', 'overflowed': 'found the radio full', 'collided': 'collided',
                  'halted': 'came to a halted mote', 'left': 'was left at the end'}
 WAITS = {'left': 'has left', 'unstarted': 'is not started', 'called': 'is being called',
@@ -37,8 +35,8 @@ WAITS = {'left': 'has left', 'unstarted': 'is not started', 'called': 'is being 
 FATES = {
     'taken': '%(process)s took it at %(at)d',
     'dropped': 'its event was dropped at %(at)d, because %(process)s was not on the process list',
-    'passed': 'its event did not reach %(process)s at %(at)d, because %(process)s was not on the process list',
     'waiting': 'its event is still in the queue at the end',
+    'forgotten': 'mote %(mote)d booted again at %(at)d, before its event was taken',
     'untaken': 'mote %(mote)d halted at %(at)d, before its event was taken',
     'full': 'it was received, but the event queue was full',
     'deaf': 'it was received, but the program has no receiver',
@@ -67,7 +65,7 @@ def in_words(program: Program, number: int) -> str:
 
 def places_as_json(source: Source) -> dict[str, int]:
     """The places of statements in the programs' file, as texts name them, each with its line of the file."""
-    return {program.line(it.line): program.place.above + it.line for program in source.translated.values()
+    return {program.line(it.line): program.place.above + it.line for program in source.programs.values()
             if program.place for it in program.statements}
 
 
@@ -171,6 +169,9 @@ class Reasons:
         if link.how == 'start':
             return 'the start'
         line = self.lines[place]
+        if link.how == 'boots':
+            its = [it.text for it in self.source.offs(self.mote) if it.numbers.get('END') == line.at]
+            return its[0] if its else 'the mote boots again'
         if link.how == 'boot':
             return 'a process of the system' if line.process in SYSTEM.values() else 'in the list of autostart'
         if link.how == 'timer':
@@ -275,7 +276,7 @@ def chain_as_json(source: Source, hops: list[Hop]) -> dict[str, Any]:
 def of_fate(source: Source, it: Fate) -> str:
     """The fate of a copy, or of an event."""
     where, (sender, number, to) = it.where, it.copy
-    off = source.off(where.mote) if where and it.what == 'halted' else None
+    off = source.off(where.mote, it.at) if where and it.what == 'halted' else None
     if off:
         return 'it arrived at %d, and %s' % (it.at, off.text)
     return FATES[it.what] % {
@@ -405,52 +406,6 @@ def of_cause(it: Cause) -> str:
     return because(it.source, it.nearest) if isinstance(it.nearest, Hop) else of_miss(it.source, it.nearest)
 
 
-# Two runs
-
-def of_instead(other: Source, hop: Hop, it: Instead) -> str:
-    """The lines of the other run at the point at which a hop would follow."""
-    mote, traces = hop.where.mote, other.traces
-    match it:
-        case Fate():
-            return of_fate(other, it)
-        case Twin():
-            return 'line %d is the same, but it has another cause: line %d, `%s`' % (
-                traces.row(it.line), traces.row(it.cause), traces.text(it.cause))
-        case Turn(lines=[]):
-            return 'mote %d writes nothing at %d; its last line before is `%s`, and its next is %s' % (
-                mote, hop.at, it.before or 'none', '`%s`' % str(it.after) if it.after else 'none')
-        case Turn():
-            shown = '; '.join('`%s`' % str(line) for line in it.lines[:MOST_LINES])
-            test = it.test and '; %s was not %s' % (in_words(other.program(mote), it.test.number), wanted(it.test))
-            return 'mote %d writes this at %d: %s%s%s' % (
-                mote, hop.at, shown, '; ..' * (len(it.lines) > MOST_LINES), test or '')
-    return 'there is no mote %d: the motes are 0 to %d' % (mote, traces.motes - 1)
-
-
-def rows_of_two(one: Source, other: Source, found: Diverged | None) -> list[str]:
-    """The text about a chain of one run and another run, with the point at which they part, if there is one."""
-    if found is None:
-        return ['%s has all of this chain too.' % other.name]
-    last, hop = found.last, found.hop
-    words, there = words_of(one, hop.where), of_instead(other, hop, found.instead)
-    if not found.common:
-        return [
-            'The two runs have no line of this chain in common:',
-            '  %s, line %d: %s, at which the chain begins' % (one.name, hop.row, words),
-            '  %s: %s' % (other.name, there),
-        ]
-    return [
-        'The two runs have the same chain from the start up to here:',
-        '  mote %d: %d %s (line %d in %s, line %d in %s)' % (
-            last.where.mote, last.at, words_of(one, last.where), last.row, one.name, other.traces.row(found.there),
-            other.name),
-        'Then they diverge:',
-        '  %s, line %d, mote %d: %d %s' % (one.name, hop.row, hop.where.mote, hop.at, words),
-        '      %s' % because(one, hop),
-        '  %s: %s' % (other.name, there),
-    ]
-
-
 # Questions
 
 def about(source: Source, it: Asked) -> str:
@@ -494,7 +449,7 @@ def state_as_json(it: State) -> dict[str, Any]:
         processes.append({
             'name': process.name, 'started': number in replay.list, 'waits': of_wait(program, wait),
             'program_line': program.statement(wait.statements[-1]).line if wait.statements else None,
-            'variables': {variable: replay.variables[number][place] for variable, place in process.variables.items()},
+            'variables': dict(replay.variables[number]),
             'polled': number in replay.needs_poll})
     return {
         'mote': replay.mote, 'at': it.at, 'halted': replay.is_halted, 'call': call_now(replay), 'processes': processes,
@@ -502,7 +457,7 @@ def state_as_json(it: State) -> dict[str, Any]:
         'queue': [{'serial': event.serial, 'for': replay.name(event.target), 'event': event.event, 'word': event.word,
                    'from': event.sender, 'posted_at': int(replay.trace[event.line].partition(' ')[0])}
                   for event in ([replay.taken] if replay.taken else []) + replay.events],
-        'semaphores': {name: replay.counts[place] for name, place in program.semaphores.items()},
+        'semaphores': dict(zip(program.semaphores, replay.counts)),
         'waiting_packets': len(replay.ring),
     }
 

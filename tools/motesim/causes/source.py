@@ -7,20 +7,17 @@ from itertools import compress, count
 from pathlib import Path
 from typing import NamedTuple
 
-from motesim.judge.expectations import fields_beside
-from motesim.report.belongs import check_scenario
 from motesim.faults import Fault
+from motesim.judge.expectations import fields_beside
+from motesim.replay.endless import Endless, endless
+from motesim.replay.mote import ARRIVALS, QUEUE, DetailedReplay, Replay
+from motesim.replay.program import Program, made_of
 from motesim.report import Line, Packet, Report
-from motesim.runner import LimitMet, NoReport
-from motesim.report.run import is_scenario, refuse_faults, refuse_others, run_program
-from motesim.scenario.encodings import decoded, read_file
+from motesim.report.run import Run, read_run
+from motesim.scenario import Scenario
 from motesim.scenario.fault_text import OFF, NetFault, read_faults
-from motesim.scenario.scenario import Scenario
-from motesim.replay.endless import Endless, LastRun, endless
 from motesim.scenario.in_programs import ScenarioFile
-from motesim.scenario.refused import check
-from motesim.replay.mote import ARRIVALS, QUEUE, Replay
-from motesim.replay.translate import Program, translated
+
 
 class At(NamedTuple):
     """A line of a trace: the mote, and the place in its trace from 0. The place -1 is the head, `mote N PROGRAM`."""
@@ -127,55 +124,54 @@ class Traces:
 class Source:
     """A run: its traces, its scenario, and the replay of each mote that was asked about."""
 
-    def __init__(self, name: str, data: bytes, scenario: Scenario, file: ScenarioFile | None = None):
+    def __init__(self, name: str, report: Report, scenario: Scenario, file: ScenarioFile | None = None):
         self.name, self.scenario, self.file = name, scenario, file
-        self.traces = Traces(Report.parse(data))
+        self.traces = Traces(report)
         self.replays: dict[int, Replay] = {}
-        self.translated: dict[str, Program] = {}
-        self.details: dict[str, Program] = {}
+        self.programs: dict[str, Program] = {}
         self.loops: dict[int, Endless | None] = {}
 
     def program(self, mote: int) -> Program:
+        """The program of a mote, with the place of its text in the scenario's file."""
         name = self.traces.programs[mote]
-        if name not in self.translated:
-            self.translated[name] = self.translate(name)
-        return self.translated[name]
+        if name not in self.programs:
+            self.programs[name] = program = made_of(self.scenario.programs[name])
+            program.place = self.file.place(name, program.text) if self.file else None
+            program.other = name if self.file and program.place is None else ''
+        return self.programs[name]
 
-    def detailed(self, mote: int) -> Program:
-        """The program of a mote, with code that notes each reached statement."""
-        name = self.traces.programs[mote]
-        if name not in self.details:
-            self.details[name] = self.translate(name, is_detailed=True)
-        return self.details[name]
-
-    def translate(self, name: str, is_detailed: bool = False) -> Program:
-        """A program of the scenario, with the place of its text in the scenario's file."""
-        program = translated(self.scenario.programs[name], is_detailed)
-        program.place = self.file.place(name, program.text) if self.file else None
-        program.other = name if self.file and program.place is None else ''
-        return program
+    def of_replay(self, mote: int) -> tuple[Program, int, int, list[str]]:
+        """What a replay of a mote begins with."""
+        return self.program(mote), mote, self.room(mote), self.traces.texts(mote)
 
     def replay(self, mote: int) -> Replay:
         """The replay of a mote."""
         if mote not in self.replays:
-            made = Replay(self.program(mote), mote, self.room(mote), self.traces.texts(mote))
-            self.replays[mote] = made.to_end(self.end(mote))
+            self.replays[mote] = Replay(*self.of_replay(mote))
+            self.replays[mote].to_end(self.end(mote))
         return self.replays[mote]
 
-    def detailed_replay(self, mote: int) -> Replay:
+    def detailed_replay(self, mote: int) -> DetailedReplay:
         """The replay of a mote, with each statement that it reached."""
-        made = Replay(self.detailed(mote), mote, self.room(mote), self.traces.texts(mote))
-        return made.to_end(self.end(mote))
+        made = DetailedReplay(*self.of_replay(mote))
+        made.to_end(self.end(mote))
+        return made
 
     def end(self, mote: int) -> int:
         """The last moment at which a mote may have a turn."""
-        off, end = self.off(mote), self.scenario.end
-        return end if off is None else min(end, off.numbers.get('BEGIN', end + 1) - 1)
+        end = self.scenario.end
+        while off := self.off(mote, end):
+            end = off.numbers['BEGIN'] - 1
+        return end
 
-    def off(self, mote: int) -> NetFault | None:
-        """The fault by which a mote is off; the first one that switches it off for good, if there is one."""
-        its = [it for it in read_faults(self.scenario.faults) if it.kind in OFF and it.numbers['FROM'] == mote]
-        return min(its, key=lambda it: it.numbers.get('BEGIN', self.scenario.end + 1)) if its else None
+    def offs(self, mote: int) -> list[NetFault]:
+        """The faults by which a mote is off, or boots again."""
+        return [it for it in read_faults(self.scenario.faults) if it.kind in OFF and it.numbers['FROM'] == mote]
+
+    def off(self, mote: int, at: int) -> NetFault | None:
+        """A fault by which a mote is off at a moment."""
+        return next((it for it in self.offs(mote)
+                     if it.numbers.get('BEGIN', at + 1) <= at < it.numbers.get('END', at + 1)), None)
 
     def room(self, mote: int) -> int:
         """The length of a mote's event queue."""
@@ -184,57 +180,22 @@ class Source:
     def loop(self, mote: int) -> Endless | None:
         """The loop that used up the work of a mote that halted; None if the mote didn't halt, or if no loop did."""
         if mote not in self.loops:
-            made = LastRun(self.detailed(mote), mote, self.room(mote), self.traces.texts(mote))
-            made.to_end(self.end(mote))
-            self.loops[mote] = endless(made)
+            self.loops[mote] = endless(*self.of_replay(mote), self.end(mote))
         return self.loops[mote]
 
 
-def with_fields(scenario: Scenario, path: str | Path) -> Scenario:
-    """A scenario with the format of packets that the expectations next to its file declare."""
-    scenario.fields = fields_beside(path)
-    return scenario
+def read_with_fields(path: str | Path, scenario: str | Path | None = None, faults: tuple[str, ...] = ()) -> Run:
+    """The run in a file, which has a scenario, with these faults, or a report, for which `scenario` names the scenario;
+    with the format of packets that the expectations next to the scenario declare."""
+    run = read_run(path, scenario, faults=faults)
+    if run.scenario:
+        run.scenario.fields = fields_beside(path if scenario is None else scenario)
+    return run
 
 
-def read_traces(path: str | Path, scenario: str | Path | None = None, faults: tuple[str, ...] = ()
-                ) -> tuple[bytes, Scenario | None]:
-    """The bytes of a report, and the scenario if it is known. The file has a scenario, which is run with these faults, or
-    a report."""
-    data = read_file(path)
-    refuse_others(path)
-    if is_scenario(path, data):
-        if scenario is not None:
-            raise Fault('%s: it is itself a scenario, so no other can be given' % path)
-        check(str(path), data)
-        try:
-            found = with_fields(Scenario.parse(data), path)
-            found.faults = faults
-            return run_program(data, faults=faults), found
-        except (LimitMet, NoReport) as fault:
-            raise Fault('%s: %s' % (path, fault)) from None
-    decoded(str(path), data)
-    refuse_faults(path, faults)
-    if scenario is None:
-        return data, None
-    return data, with_fields(Scenario.parse(read_file(scenario), str(scenario)), scenario)
-
-
-def scenario_file(path: str | Path) -> ScenarioFile | None:
-    """A scenario's file, unless it is standard input, which can't be read twice."""
-    return None if str(path) == '-' else ScenarioFile(Path(path).name, read_file(path).decode('utf-8'))
-
-
-def read_source(path: str | Path, scenario: str | Path | None = None, faults: tuple[str, ...] = ()) -> Source:
-    """The source for a file: it has a scenario, which is run with these faults, or a report, for which `scenario` names the
-    scenario."""
-    data, found = read_traces(path, scenario, faults)
-    if found is None:
+def source_of(run: Run) -> Source:
+    """The source for questions about a run."""
+    if run.scenario is None:
         raise Fault("%s: a report doesn't have the programs, which its causes follow from: name its scenario, by "
-                    "--scenario FILE" % path)
-    try:
-        source = Source(str(path), data, found, scenario_file(path if scenario is None else scenario))
-        if scenario is not None:
-            check_scenario(source.traces.report, found)
-        return source
-    except Fault as fault:
-        raise Fault('%s: %s' % (path, fault)) from None
+                    "--scenario FILE" % run.name)
+    return Source(run.name, run.report, run.scenario, run.file)

@@ -31,7 +31,7 @@ class Wait(NamedTuple):
 
 def fresh(source: Source, mote: int) -> Replay:
     """A replay that hasn't run yet."""
-    return Replay(source.program(mote), mote, source.replay(mote).room, source.traces.texts(mote))
+    return Replay(*source.of_replay(mote))
 
 
 def after_moment(source: Source, mote: int, at: int) -> State:

@@ -8,16 +8,15 @@ from typing import NamedTuple
 from motesim.text import nearest
 from motesim.faults import Fault
 from motesim.causes.source import At, Source, Traces
-from motesim.replay.translate import Program
+from motesim.replay.program import Program
 
 ASKED = re.compile(r'\s*(?:every\s+mote|motes?\s+(?P<motes>\d+(?:\s*(?:,|and|to)\s*\d+)*))\s+(?P<names>[a-z].*)')
 
 
 class Watched(NamedTuple):
-    """A watched variable of a process, both by their numbers."""
+    """A watched variable of a process of a program."""
     program: str
     process: int
-    variable: int
     name: str
 
 
@@ -51,7 +50,7 @@ def variables_of(program: Program, name: str, words: str) -> list[Watched]:
     process, _, variable = words.rpartition('.')
     for it in program.processes:
         if variable in it.variables and process in ('', it.name):
-            found.append(Watched(name, it.number, it.variables[variable], variable))
+            found.append(Watched(name, it.number, variable))
     return found
 
 
@@ -80,20 +79,19 @@ def first_values(source: Source, motes: list[int], watched: list[Watched]) -> li
     for mote in motes:
         for it in watched:
             if it.program == source.traces.programs[mote]:
-                process = source.translated[it.program].processes[it.process]
-                found.append(Given(mote, 0, 0, process.name, it.name, process.first[it.variable]))
+                process = source.program(mote).processes[it.process]
+                found.append(Given(mote, 0, 0, process.name, it.name, process.variables[it.name]))
     return found
 
 
 def replayed(source: Source, motes: list[int], watched: list[Watched]) -> list[Given]:
     """The values of variables on some motes, in chronological order."""
     found = first_values(source, motes, watched)
-    wanted = {(it.program, it.process, it.variable): it.name for it in watched}
     for mote in motes:
         program = source.traces.programs[mote]
         for it in source.replay(mote).changes:
-            name = wanted.get((program, it.process, it.variable))
-            if name:
+            if Watched(program, it.process, it.variable) in watched:
                 row = source.traces.row(At(mote, it.lines - 1)) if it.lines else 0
-                found.append(Given(mote, it.at, row, source.program(mote).processes[it.process].name, name, it.value))
+                found.append(Given(mote, it.at, row, source.program(mote).processes[it.process].name, it.variable,
+                                   it.value))
     return sorted(found, key=attrgetter('at', 'mote', 'row'))

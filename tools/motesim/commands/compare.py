@@ -6,7 +6,7 @@ scenarios. `tools/compare A --fault "mote 3 is silent"` compares the run of a sc
 The first difference between two reports is the one at the earliest moment; `diff` may show another one
 first. The tool shows its moment and mote, the line of each report, and the last packets and events of this mote before
 the difference. It also shows the first collision that only one of the two reports has, and the number of lines that
-differ, for each mote and for each kind of line. `--html FILE` writes a page with one timeline above the other.
+differ. `--html FILE` writes a page with one timeline above the other.
 
 The tool ends with status 0 if the reports are the same, 1 if they differ, and 2 if A or B can't be read.
 """
@@ -29,8 +29,6 @@ def parser() -> Words:
     words.add_argument('a', metavar='A', help='a report, or a scenario')
     words.add_argument('b', nargs='?', metavar='B', help='another report or scenario; with a fault, A itself')
     add_faults(words, "B's run")
-    words.add_argument('--rows', type=int, default=20, metavar='N',
-                       help='show at most N motes in the table of lines that differ (20)')
     words.add_argument('--html', metavar='FILE',
                        help='write both timelines to this page, which opens at the first difference')
     return words

@@ -17,10 +17,8 @@ others. Each run has limits (--seconds of processor time, --memory, --report), a
 it again.
 
 The tool ignores tables `[[change]]` of EXPECTATIONS, because they replace texts of one particular solution. -o writes
-the grades to a file: NAME.csv for a spreadsheet, or a page NAME.html. The page links the first broken
-expectation of each solution to a timeline. --why NAME shows, for one solution, what breaks each expectation. If
-`motesim` refuses the solution, --why shows the place of the error. --write FOLDER writes each program in each net as a
-scenario, such as FOLDER/anna.toml_in_hidden.toml, for the studio and the other tools.
+a page that links the first broken expectation of each solution to a timeline. --why NAME shows, for one solution, what
+breaks each expectation. If `motesim` refuses the solution, --why shows the place of the error.
 
 The tool ends with status 0; with 1 if a solution isn't graded; with 2 if the expectations or the nets can't be read.
 """
@@ -30,8 +28,6 @@ from pathlib import Path
 
 from motesim.command import command
 from motesim.words import Words, add_jobs, add_limits, add_parameter, add_table, words_of
-
-FORMATS = ('.csv', '.html')
 
 
 def parser() -> Words:
@@ -46,10 +42,7 @@ def parser() -> Words:
     words.add_argument('--program', metavar='NAME', help='the program that the students write, if a net has several')
     add_limits(words, 20, 1024, 16)
     add_jobs(words)
-    words.add_argument('-o', dest='output', action='append', default=[], metavar='FILE', type=Path,
-                       help='write the grades: NAME.csv or NAME.html')
-    words.add_argument('--write', metavar='FOLDER', type=Path,
-                       help='also write each program in each net as a scenario, which the studio can open')
+    words.add_argument('-o', dest='output', metavar='PAGE', type=Path, help='write the grades as a page, NAME.html')
     add_table(words, 'csv', 'write the grades in CSV')
     words.add_argument('--why', metavar='NAME', help='show what breaks the expectations in one solution')
     return words
@@ -59,9 +52,8 @@ def parser() -> Words:
 def main() -> int:
     words = parser()
     asked = words.parse_args()
-    for path in asked.output:
-        if path.suffix not in FORMATS:
-            words.error('%s: a file of grades ends in .csv or .html' % path)
+    if asked.output and asked.output.suffix != '.html':
+        words.error('%s: a page of grades ends in .html, and --csv writes a table' % asked.output)
     from motesim.grading.command import status_of
     from motesim.output import output_to
     with output_to(asked.csv, [asked.expectations, *asked.net, *asked.hidden]):

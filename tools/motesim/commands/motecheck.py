@@ -10,12 +10,10 @@ The status is 0 if all claims hold, with all sets of a survey, 1 if not, and 2 i
 """
 from __future__ import annotations
 
-import os
-import signal
 import sys
 from pathlib import Path
 
-from motesim.command import command
+from motesim.command import become, command
 from motesim.words import Words, add_faults, words_of
 
 
@@ -50,7 +48,4 @@ def main() -> int:
     if asked.scenario in texts:
         refuse_others(asked.scenario)
         check(asked.scenario, texts[asked.scenario])
-    # (Python ignores them, and motecheck must not)
-    for number in signal.SIGPIPE, signal.SIGXFSZ:
-        signal.signal(number, signal.SIG_DFL)
-    os.execv(program, [CHECKER, *sys.argv[1:]])
+    become(program, [CHECKER, *sys.argv[1:]])

@@ -10,6 +10,8 @@ The command ends with status 0, or with 2 if there is no report.
 """
 from __future__ import annotations
 
+import argparse
+
 from motesim.command import command
 from motesim.words import Words, add_faults, words_of
 
@@ -24,11 +26,15 @@ def parser() -> Words:
     return words
 
 
+def options_of(asked: argparse.Namespace) -> list[str]:
+    """The options of motesim that are asked for."""
+    return [it for name in ('workers', 'cut', 'sync') if getattr(asked, name) is not None
+            for it in ('--' + name, getattr(asked, name))]
+
+
 @command('run')
 def main() -> int:
     asked = parser().parse_args()
-    options = [it for name in ('workers', 'cut', 'sync') if getattr(asked, name) is not None
-               for it in ('--' + name, getattr(asked, name))]
     from motesim.explain.whole_run import status_of
     from motesim.scenario.fault_text import faults_asked
-    return status_of(asked.file, options, faults_asked(asked))
+    return status_of(asked.file, options_of(asked), faults_asked(asked))

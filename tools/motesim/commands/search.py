@@ -8,7 +8,8 @@ or into the folder that -o names; all tools take such a file with --faults. The 
 no file is named, they are in NAME.expect.toml next to the scenario NAME.toml.
 
 Without an option for a kind of faults, the tool tries --links, --silent and --lost. Other values, places, losses or
-lengths of queues are parameters of a plan: tools/sweep measures runs with them.
+lengths of queues are parameters of a plan: tools/sweep measures runs with them, and tools/scenario writes one of its
+scenarios, which can be searched.
 
 docs/use/TESTING.md begins with a protocol that looks right, and explains what the result of a search means.
 
@@ -19,7 +20,7 @@ from __future__ import annotations
 
 from motesim.command import command
 from motesim.surveys.kinds import add_kinds
-from motesim.words import Words, add_expectation, add_jobs, add_limits, add_parameter, add_table, whole_above_0, words_of
+from motesim.words import Words, add_expectation, add_jobs, add_limits, add_table, whole_above_0, words_of
 
 # The limits of a run: those of motesim.surveys.searching.
 SECONDS, REPORT = 10.0, 16
@@ -27,19 +28,19 @@ SECONDS, REPORT = 10.0, 16
 
 def parser() -> Words:
     words = words_of(__doc__)
-    words.add_argument('scenario', nargs='?', metavar='SCENARIO', help='a scenario, NAME.toml, or a plan')
+    words.add_argument('scenario', nargs='?', metavar='SCENARIO', help='a scenario, NAME.toml')
     words.add_argument('expectations', nargs='?', metavar='EXPECTATIONS',
                        help='the expectations (NAME.expect.toml next to the scenario)')
     add_expectation(words)
     add_kinds(words)
-    words.add_argument('--at-most', type=int, choices=range(256), default=1, metavar='K',
+    words.add_argument('--at-most', type=int, choices=range(256), metavar='K',
                        help='the greatest number of faults in one run (1)')
-    add_parameter(words, 'of a plan: search with this value of a parameter, or with each of several, such as seed=1..5, '
-                         'and show in how many searches each set breaks an expectation')
+    words.add_argument('--how-many', action='store_true',
+                       help='try larger and larger sets, until each expectation is broken or --at-most is reached')
     words.add_argument('--most-runs', type=whole_above_0, metavar='N',
-                       help='try sets in at most N runs; with --shrink, the runs that make a scenario small count too')
+                       help='try sets in at most N runs')
     words.add_argument('--most-seconds', type=float, metavar='N',
-                       help='end the search after N seconds; with --shrink, this counts too')
+                       help='end the search after N seconds')
     add_limits(words, SECONDS, None, REPORT)
     add_jobs(words)
     words.add_argument('-o', dest='output', metavar='FOLDER', help='the folder of the written files (NAME.search)')
@@ -47,13 +48,6 @@ def parser() -> Words:
     add_table(words, 'json', 'write all results in JSON')
     words.add_argument('--all', action='store_true',
                        help='show all sets that break an expectation, not only ten for each expectation')
-    words.add_argument('--shrink', action='store_true',
-                       help='for each broken expectation, write a scenario that breaks it, as small as possible, as '
-                            'tools/shrink does. --most-runs and --most-seconds limit this too')
-    words.add_argument('--keep', action='append', default=[], metavar='KEPT',
-                       help='with --shrink: what the small scenarios keep, as tools/shrink --help describes')
-    words.add_argument('--progress', action='store_true',
-                       help='report progress and errors in lines of JSON, on standard error')
     words.add_argument('--studies', nargs='+', metavar='FILE',
                        help='make the searches in these files, and check that their results are those in the files')
     return words

@@ -9,7 +9,6 @@ Two options make this less likely:
 
   --fault FAULT        the expectation has to hold without the faults, and to be broken with them
   --keep EXPECTATION   this expectation has to hold after each step
-  --keep end,medium    these parts stay: end, medium, places, programs, or numbers (the values of `self` and `from`)
 
 If motes get other numbers, the tool changes their numbers in expectations and faults too. It leaves out faults that
 aren't needed. If EXPECTATION is a file, the tool uses the first broken expectation in this file. Without EXPECTATION,
@@ -17,11 +16,11 @@ the file is NAME.expect.toml, next to the scenario NAME.toml.
 
 The tool writes the result to NAME.small.toml, next to the scenario, with its expectation and its faults next to it,
 and says so if it replaces an earlier result; it never replaces another file that you haven't named. In the result no
-single further step is possible. A large net may need minutes. After Ctrl-C, or at a limit, the tool writes the
-smallest scenario so far, or no file if it has taken no step. docs/use/TESTING.md has an example.
+single further step is possible. A large net may need minutes. After Ctrl-C the tool writes the smallest scenario so
+far, or no file if it has taken no step. docs/use/TESTING.md has an example.
 
-The tool ends with status 0, with 2 after an error, for instance if the scenario doesn't break the expectation or if a
-limit allows no step, and with 130 after Ctrl-C.
+The tool ends with status 0, with 2 after an error, for instance if the scenario doesn't break the expectation, and with
+130 after Ctrl-C.
 """
 from __future__ import annotations
 
@@ -49,15 +48,9 @@ def parser() -> Words:
     words.add_argument('expectation', nargs='?', metavar='EXPECTATION',
                        help='an expectation of tools/expect, or a file of expectations')
     words.add_argument('-o', dest='output', metavar='FILE', help='the result; by default NAME.small.toml, next to the scenario')
-    words.add_argument('--keep', action='append', default=[], metavar='KEPT',
-                       help='an expectation that has to hold after each step; or parts that stay, with commas between '
-                            'them: end, medium, places, numbers (the values of `self` and `from`), programs')
+    words.add_argument('--keep', action='append', default=[], metavar='EXPECTATION',
+                       help='an expectation that has to hold after each step')
     add_faults(words)
-    words.add_argument('--steps', action='store_true', help='show each step')
-    words.add_argument('--most-runs', type=int, metavar='N', help='make at most N runs')
-    words.add_argument('--most-seconds', type=float, metavar='N', help='begin no more runs after N seconds')
-    words.add_argument('--progress', action='store_true',
-                       help='report progress and errors in lines of JSON, on standard error')
     add_limits(words, SECONDS, None, None)
     add_expectation(words, 'the expectation')
     return words

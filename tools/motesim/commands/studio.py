@@ -8,7 +8,7 @@ from __future__ import annotations
 from motesim.command import command
 from motesim.words import Words, add_faults, add_limits, words_of
 
-# The limits of a run: those of motesim.studio.runs.
+# The limits of a run.
 SECONDS, MEMORY, REPORT = 10, 1024, 16
 
 

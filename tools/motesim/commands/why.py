@@ -18,9 +18,6 @@ def parser() -> Words:
     words.add_argument('question', metavar='QUESTION', nargs='?', help='an expectation, or a line of the report')
     words.add_argument('--scenario', metavar='FILE', help='if FILE is a report: its scenario')
     add_faults(words, "FILE's run")
-    words.add_argument('--other', metavar='FILE',
-                       help='a second scenario or report: show the first line of the chain that the second run lacks')
-    words.add_argument('--other-scenario', metavar='FILE', help='if --other names a report: its scenario')
     words.add_argument('--watch', metavar='WORD', nargs='+',
                        help='show the values of variables over time: --watch mote 3 newest, distance')
     words.add_argument('--state', metavar='WORD', nargs='+',
@@ -45,5 +42,5 @@ def main() -> int:
     from motesim.output import output_to
     from motesim.causes.command import status_of
     asked.question = one_of(asked.question, asked.expect)
-    with output_to(asked.json, [asked.file, asked.scenario, asked.other]):
+    with output_to(asked.json, [asked.file, asked.scenario]):
         return status_of(asked)

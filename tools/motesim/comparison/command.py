@@ -4,8 +4,7 @@ from __future__ import annotations
 import argparse
 from collections.abc import Callable
 
-from motesim.comparison.columns import MEDIUM
-from motesim.comparison.reports import Difference, compared, packet_of
+from motesim.comparison.reports import MEDIUM, MOST, Difference, compared, packet_of
 from motesim.faults import Fault
 from motesim.files import refuse_inputs
 from motesim.report.run import Run, read_run
@@ -31,7 +30,7 @@ def status_of(asked: argparse.Namespace, write_page: Callable[..., None]) -> int
     if asked.html:
         refuse_inputs(asked.html, [asked.a, asked.b], '--html')
     a, b = read_run(asked.a), read_run(other, faults=faults)
-    lines, first, is_same = compared(a, b, max(1, asked.rows))
+    lines, first, is_same = compared(a, b, MOST)
     if asked.html:
         write_html(write_page, asked.html, a, b, first)
     print('\n'.join(lines))

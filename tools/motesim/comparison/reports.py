@@ -5,21 +5,21 @@ from collections import Counter
 from collections.abc import Iterator, Sequence
 from typing import TYPE_CHECKING, Any, NamedTuple
 
-from motesim.cells import aligned
-from motesim.comparison import scenarios as scenario_differences
-from motesim.comparison.columns import MEDIUM, Both
-from motesim.report import FIELDS, KINDS, Line, Packet, Report
+from motesim.comparison import scenarios
+from motesim.report import Line, Packet, Report
 
 if TYPE_CHECKING:
     from motesim.report.run import Run
 
 LETTERS = 'AB'
+# The number of the log of the medium, which is used like the number of a mote.
+MEDIUM = -1
 PACKETS_BEFORE, EVENTS_BEFORE = 3, 4
+# The most lines about the scenarios, and about motes.
+MOST = 20
 OF_PACKETS = ('send', 'recv', 'lost', 'collide', 'deaf')
 
 Pair = tuple[Report, Report]
-# The numbers of lines that only one report has, by mote and kind.
-Counts = tuple[Counter[tuple[int, str]], Counter[tuple[int, str]]]
 Met = dict[tuple[int, int], list[tuple[int, int]]]
 
 
@@ -41,11 +41,11 @@ def number_of(n: int, what: str) -> str:
     return '%d %s%s' % (n, what, '' if n == 1 else 's')
 
 
-def lists_of(report: Report) -> dict[int, Sequence[Any]]:
-    """The lines of each mote, and those of the medium."""
-    found: dict[int, Sequence[Any]] = {mote.number: mote.lines for mote in report.motes}
-    found[MEDIUM] = report.medium
-    return found
+def lines_of(report: Report, mote: int) -> Sequence[Any]:
+    """The lines of a mote, none if there is no such mote; or those of the medium."""
+    if mote == MEDIUM:
+        return report.medium
+    return report.motes[mote].lines if mote < len(report.motes) else ()
 
 
 def differences(a: Report, b: Report) -> list[Difference]:
@@ -53,28 +53,23 @@ def differences(a: Report, b: Report) -> list[Difference]:
 
     At one moment the motes are in their order, and the medium is after them.
     """
-    ours, others, found = lists_of(a), lists_of(b), []
-    columns = Both(a, b)
-    for mote in sorted(ours | others):
-        index = columns.first_difference(mote)
-        if index is not None:
-            pair = ours.get(mote, ()), others.get(mote, ())
-            found.append(Difference(min(lines[index].at for lines in pair if index < len(lines)), mote, index))
+    found = []
+    for mote in (*range(max(len(a.motes), len(b.motes))), MEDIUM):
+        ours, others = lines_of(a, mote), lines_of(b, mote)
+        place = next((at for at, (one, other) in enumerate(zip(ours, others)) if one != other),
+                     min(len(ours), len(others)))
+        left = [its[place].at for its in (ours, others) if place < len(its)]
+        found += [Difference(min(left), mote, place)] if left else []
     return sorted(found, key=lambda it: (it.at, it.mote == MEDIUM, it.mote))
 
 
-def heads(a: Report, b: Report) -> list[str]:
+def heads(a: Report, b: Report) -> Iterator[str]:
     """The motes that run another program, or that only one report has."""
-    found = []
-    every = [tuple(it.motes[number].program if number < len(it.motes) else None for it in (a, b))
-             for number in range(max(len(a.motes), len(b.motes)))]
-    for motes, names in scenario_differences.alike(every):
-        runs, exists = ('run', 'are') if len(motes) > 1 else ('runs', 'is')
-        if names[0] != names[1]:
-            found.append('%s %s' % (scenario_differences.motes_in_words(motes), ' and '.join(
-                '%s %s in %s' % (runs, name, letter) if name else '%s not in %s' % (exists, letter)
-                for name, letter in zip(names, LETTERS))))
-    return found
+    for mote in range(max(len(a.motes), len(b.motes))):
+        says = ['runs %s in %s' % (it.motes[mote].program, letter) if mote < len(it.motes) else 'is not in %s' % letter
+                for letter, it in zip(LETTERS, (a, b))]
+        if says[0][:-1] != says[1][:-1]:
+            yield 'mote %d %s' % (mote, ' and '.join(says))
 
 
 def collisions(report: Report) -> Met:
@@ -101,11 +96,6 @@ def sent(report: Report, packet: tuple[int, int]) -> str:
     return 'packet %d of mote %d%s' % (packet[1], packet[0], ' (sent at %d)' % found.at if found else '')
 
 
-def joined(texts: list[str]) -> str:
-    """Texts with a comma between each two of them, and an `and` before the last."""
-    return texts[0] if len(texts) == 1 else '%s and %s' % (', '.join(texts[:-1]), texts[-1])
-
-
 def collision_in_words(found: Collision, reports: Pair, first: Difference) -> list[str]:
     """The packets of a collision, and whether it is the first difference or a later one."""
     sides = [side for side in (0, 1) if found.packets[side]]
@@ -113,8 +103,8 @@ def collision_in_words(found: Collision, reports: Pair, first: Difference) -> li
     is_first = (found.at, found.mote) == (first.at, first.mote)
     lines = ['The first collision that %s%s:' % (whose, ', which is the first difference' if is_first else '')]
     for side in sides:
-        texts = [sent(reports[side], packet) for packet in found.packets[side]]
-        lines.append('  %s: at moment %d mote %d loses %s' % (LETTERS[side], found.at, found.mote, joined(texts)))
+        packets = ' and '.join(sent(reports[side], packet) for packet in found.packets[side])
+        lines.append('  %s: at moment %d mote %d loses %s' % (LETTERS[side], found.at, found.mote, packets))
     return lines
 
 
@@ -133,20 +123,16 @@ def origin(line: Line | Packet, report: Report) -> str:
     return ''
 
 
-def row_of(report: Report, mote: int, index: int) -> int:
-    return (report.medium_row if mote == MEDIUM else report.motes[mote].row) + 1 + index
-
-
 def side_in_words(letter: str, report: Report, it: Difference) -> list[str]:
     """The line of one side at the first difference."""
-    lines = lists_of(report).get(it.mote)
-    if lines is None:
+    if it.mote >= len(report.motes):
         return ['  %s has no such mote' % letter]
+    lines = lines_of(report, it.mote)
     if it.place >= len(lines):
         return ['  %s has no further line of it' % letter]
-    line = lines[it.place]
-    shown = ['  %s, line %d: %s' % (letter, row_of(report, it.mote, it.place), line)]
-    why = origin(line, report)
+    head = report.medium_row if it.mote == MEDIUM else report.motes[it.mote].row
+    shown = ['  %s, line %d: %s' % (letter, head + 1 + it.place, lines[it.place])]
+    why = origin(lines[it.place], report)
     return shown + (['      (%s)' % why] if why else [])
 
 
@@ -206,63 +192,35 @@ def few(numbers: list[int]) -> str:
     return ', '.join(map(str, numbers[:8])) + (' and %d more' % (len(numbers) - 8) if len(numbers) > 8 else '')
 
 
-def only_in(reports: Pair, found: list[Difference]) -> Counts:
-    """The numbers of lines that only one report has, by mote (or MEDIUM) and kind."""
-    counts: Counts = (Counter(), Counter())
-    columns = Both(*reports)
+def only_in(reports: Pair, found: list[Difference]) -> tuple[int, int]:
+    """The numbers of lines that only one report has: those of each mote, and of the medium."""
+    only = [0, 0]
     for it in found:
-        for kind in ('medium',) if it.mote == MEDIUM else KINDS:
-            only = (columns.only_packets(it.place) if it.mote == MEDIUM else
-                    columns.only_lines(it.mote, kind, it.place))
-            for into, number in zip(counts, only):
-                if number:
-                    into[it.mote, kind] = number
-    return counts
+        one, other = (Counter(lines_of(report, it.mote)[it.place:]) for report in reports)
+        only[0] += (one - other).total()
+        only[1] += (other - one).total()
+    return only[0], only[1]
 
 
-def table(name: str, rows: list[tuple[str, int, int]], most: int) -> Iterator[str]:
-    """A table of the lines that only A or only B has, with at most this many rows."""
-    shown = rows[:most]
-    if len(rows) > most:
-        rest = rows[most:]
-        shown.append(('%d more' % len(rest), sum(row[1] for row in rest), sum(row[2] for row in rest)))
-    texts = [[name, 'only A', 'only B'], *([*map(str, row)] for row in shown)]
-    return ('  ' + row for row in aligned(texts, {0}))
-
-
-def counted(counts: Counts, most: int) -> Iterator[str]:
-    """Tables of the lines that differ, by mote and by kind."""
-    by_mote: dict[int, list[int]] = {}
-    by_kind: dict[str, list[int]] = {}
-    for side, counter in enumerate(counts):
-        for (mote, kind), number in counter.items():
-            by_mote.setdefault(mote, [0, 0])[side] += number
-            by_kind.setdefault(kind, [0, 0])[side] += number
-    totals = tuple(sum(sums[side] for sums in by_kind.values()) for side in (0, 1))
-    if not any(totals):
-        yield 'Both have the same lines, in another order within a moment.'
-        return
-    yield 'Lines that differ: %d only in A, %d only in B' % totals
-    motes = [('mote %d' % mote, it[0], it[1]) for mote, it in sorted(by_mote.items()) if mote != MEDIUM]
-    if motes:
-        yield from table('by mote', motes, most)
-    kinds = [(kind, by_kind[kind][0], by_kind[kind][1]) for kind in (*FIELDS, 'medium') if kind in by_kind]
-    yield from table('by kind', kinds, len(kinds))
+def counted(only: tuple[int, int]) -> str:
+    """How many lines differ."""
+    if not any(only):
+        return 'Both have the same lines, in another order within a moment.'
+    return 'Lines that differ: %d only in A, %d only in B' % only
 
 
 def compared(a: Run, b: Run, most: int) -> tuple[list[str], Difference | None, bool]:
-    """The lines that say how two reports differ, their first difference, and whether they are the same."""
+    """The lines that say how two reports differ, with at most this many about their scenarios and about their motes;
+    their first difference; and whether they are the same."""
     reports = a.report, b.report
     lines = ['%s: %s' % (letter, run.name) for letter, run in zip(LETTERS, (a, b))]
     if a.scenario and b.scenario:
-        lines += scenario_differences.in_words(a.scenario, b.scenario, most)
-    found, others = differences(*reports), heads(*reports)
+        lines += scenarios.in_words(a.scenario, b.scenario, most)
+    found, others = differences(*reports), list(heads(*reports))
     if not found and not others and a.report.left == b.report.left:
         return lines + ['The reports are the same: %s, %s.' % (
-            number_of(len(a.report.motes), 'mote'),
-            number_of(row_of(a.report, MEDIUM, len(a.report.medium)), 'line'))], None, True
-    lines += ['', 'The reports differ.']
-    lines += ['  ' + it for it in others[:most]]
+            number_of(len(a.report.motes), 'mote'), number_of(a.report.length, 'line'))], None, True
+    lines += ['', 'The reports differ.', *('  ' + it for it in others[:most])]
     if len(others) > most:
         lines += ['  and %d more motes' % (len(others) - most)]
     if found:
@@ -274,7 +232,7 @@ def compared(a: Run, b: Run, most: int) -> tuple[list[str], Difference | None, b
         totals = tuple(sum(map(len, it.values())) for it in met)
         lines += ['  copies that collided, in all: %d in A, %d in B' % totals]
     if found:
-        lines += ['', *counted(only_in(reports, found), most)]
+        lines += ['', counted(only_in(reports, found))]
     if a.report.left != b.report.left:
         lines += ['', 'Copies that would arrive after the end: %d in A, %d in B' % (a.report.left, b.report.left)]
     return lines, found[0] if found else None, False

@@ -8,7 +8,7 @@ from motesim.contiki.host import QUEUE, net_tables, program_tables
 from motesim.contiki.names import file_names
 from motesim.contiki.program_file import ProgramFile
 from motesim.faults import Fault
-from motesim.files import refuse_inputs
+from motesim.files import refuse_inputs, write_whole
 from motesim.home import TOP
 from motesim.notation.reader import read_program
 from motesim.scenario import Scenario
@@ -122,16 +122,7 @@ def write_folder(data: bytes, path: str, folder: Path, with_host: bool) -> list[
     texts = list(folder_files(Path(path).stem, scenario, with_host))
     for name, _ in texts:
         refuse_inputs(folder / name, [path])
-    return [_written(folder / name, text) for name, text in texts]
-
-
-def _written(path: Path, text: str) -> Path:
-    """Writes a complete file."""
-    beside = path.with_name(path.name + '.new')
-    try:
-        path.parent.mkdir(parents=True, exist_ok=True)
-        beside.write_text(text, 'utf-8')
-        beside.replace(path)
-    except OSError as fault:
-        raise Fault('%s: %s' % (fault.filename or path, fault.strerror)) from None
-    return path
+    for name, text in texts:
+        (folder / name).parent.mkdir(parents=True, exist_ok=True)
+        write_whole(folder / name, [text.encode()])
+    return [folder / name for name, _ in texts]

@@ -14,7 +14,7 @@ from motesim.judge.names import Names, names_of
 from motesim.judge.sentence_fault import SentenceFault
 from motesim.plan.plan import Plan
 from motesim.plan.tables import Value, optional, text_of_value
-from motesim.plan.values import MOST_RUNS, values_of
+from motesim.plan.values import MOST_RUNS, named, values_of
 from motesim.scenario import Scenario
 
 # The greatest number of runs whose scenarios are made before the first run, to find mistakes early.
@@ -77,12 +77,10 @@ def sweep_of(plan: Plan, vary: Sequence[str], measures: Sequence[str], seconds: 
     """Returns the request of the plan's table `sweep` and of the command line."""
     table = plan.tables.read(plan.tables.top.get('sweep', {}), ('sweep',), SWEEP, 'A sweep')
     asked = {name: _values_in_plan(plan, name, values) for name, values in table['vary'].items()}
-    named: set[str] = set()
-    for words in vary:
-        name, sign, text = words.partition('=')
-        if not sign or name in named:
-            raise Fault('--param needs NAME=VALUES, once for each name, not %r' % words)
-        named.add(name)
+    given = [named(words) for words in vary]
+    for name, text in given:
+        if [it for it, _ in given].count(name) > 1:
+            raise Fault('--param names %s twice: name all its values in one option' % name)
         asked[name] = values_of(text)
     plan.with_given({name: values[0] for name, values in asked.items()})
     if not all(type(it) is str for it in table['measure']):

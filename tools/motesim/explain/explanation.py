@@ -5,10 +5,9 @@ import re
 from collections.abc import Callable, Collection
 from typing import Any
 
-from motesim.explain import synonyms
 from motesim.explain.advice import advice
 from motesim.explain.edits import Correction, hint
-from motesim.explain.repair import repair
+from motesim.explain.repair import like_of_missing, repair
 from motesim.explain.say import edits_in_words, hint_in_words, with_name
 from motesim.explain.structure import without_parameters
 from motesim.explain.warned import Warned
@@ -59,7 +58,7 @@ def place_of_scenario(text: str, fault: ScenarioError) -> Place | None:
     of the one that the author wrote instead, or None."""
     if fault.lacks is None:
         return fault.place(text)
-    like = synonyms.like_of_missing(tables_or_none(text), fault)
+    like = like_of_missing(tables_or_none(text), fault)
     return place_of(text, (like,)) if like else None
 
 
@@ -146,15 +145,11 @@ def whole_explanation(name: str, data: bytes, line: str) -> list[str]:
     if fault is None or fault.message != what:
         # (for instance of an error of memory, or of a text that only Python reads as TOML)
         return [rule_of(what), 'This tool can\'t show the place of the error.']
-    if is_program_file(name, data):
-        return program_instead(name, data)
     text = data.decode('utf-8', 'replace')
-    if is_c_file(name):
-        return [OF_C % one_line(name)]
+    if other := no_scenario(name, data):
+        return other
     if fault.program:
         return of_program(name, text, str(fault.path[1]), fault.program)
-    if has_plan(data):
-        return [OF_PLAN % (one_line(name), one_line(name))]
     return [*where_told(name, text, fault), rule_of(what),
             *tried(lambda: hinted(hint_of_scenario(data, text)), failed), allowed(fault.may)]
 
@@ -173,6 +168,15 @@ def where_told(name: str, text: str, fault: ScenarioError) -> list[Shown]:
     if place or not fault.lacks:
         return shown_place(name, text, place or Place(1, 0, 1))
     return [Shown('%s has no `%s`.' % (one_line(name), fault.lacks))]
+
+
+def no_scenario(name: str, data: bytes) -> list[str]:
+    """The lines about a file that has something else than a scenario; none if it may have one."""
+    if is_c_file(name):
+        return [OF_C % one_line(name)]
+    if is_program_file(name, data):
+        return program_instead(name, data)
+    return [OF_PLAN % (one_line(name), one_line(name))] if has_plan(data) else []
 
 
 def program_instead(name: str, data: bytes) -> list[str]:
@@ -204,11 +208,8 @@ def explain(name: str, run: Callable[[bytes], Answer] | None = None, silent: Col
     """Prints the explanation of a file, as tools/explain does, without the warnings of some names; returns the status.
     `run` runs the scenario."""
     data = read_file(name)
-    if is_c_file(name):
-        print('\n'.join(folded([OF_C % one_line(name)])))
-        return 1
-    if is_program_file(name, data):
-        print('\n'.join(folded(program_instead(name, data))))
+    if other := no_scenario(name, data):
+        print('\n'.join(folded(other)))
         return 1
     return shown_explanation(name, data, run or answer, silent)
 

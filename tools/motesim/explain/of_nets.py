@@ -5,12 +5,18 @@ from collections.abc import Iterator, Mapping
 
 from motesim.report.moments import bursts
 from motesim.explain.of_structure import asked_in, posted_in
-from motesim.explain.used_up import loop_of
 from motesim.explain.warned import Fact, Warned, of_token
+from motesim.faults import Fault
 from motesim.notation.printer import written
 from motesim.notation.tree import Program
-from motesim.report import Report
+from motesim.replay.endless import endless
+from motesim.replay.mote import QUEUE
+from motesim.replay.program import made_of
+from motesim.report import Mote, Report
 from motesim.scenario import Scenario
+
+# A mote with more lines than this isn't replayed: the replay would last several seconds.
+MOST_LINES = 100_000
 
 
 def sends(program: Program) -> bool:
@@ -73,3 +79,16 @@ def of_halts(scenario: Scenario, report: Report) -> Iterator[Warned]:
         if facts is None:
             facts = known[mote.program] = (('at', at), *loop_of(scenario, mote))
         yield Warned('used-up', facts, mote.program, mote=mote.number)
+
+
+def loop_of(scenario: Scenario, mote: Mote) -> tuple[tuple[str, Fact], ...]:
+    """The line and the rounds of the loop that halted a mote, as facts of a warning; nothing if no loop did, or if the
+    replay would last too long."""
+    if len(mote.lines) > MOST_LINES:
+        return ()
+    program, queue = made_of(scenario.programs[mote.program]), scenario.queue.get(mote.program, QUEUE)
+    try:
+        found = endless(program, mote.number, queue, list(map(str, mote.lines)), scenario.end)
+    except Fault:
+        return ()
+    return (('line', program.statement(found.loop).line), ('rounds', found.rounds)) if found else ()

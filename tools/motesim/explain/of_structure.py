@@ -1,13 +1,11 @@
-"""Warnings about processes that never run, and about packets, events and signals that reach nobody."""
+"""Warnings about processes that never run, and about packets and events that reach nobody."""
 from __future__ import annotations
 
 from collections.abc import Iterator
 
 from motesim.explain.warned import Warned, of_token
-from motesim.notation.tree import Code, Part, Program, Statement, expressions_of, statements_of, tests_in, values_in
+from motesim.notation.tree import Code, Program, expressions_of, statements_of, tests_in, values_in
 from motesim.notation.tree import Test as Asked
-
-SETS = ('set', 'reset', 'restart_timer')
 
 
 def asked_in(code: Code, event: str) -> list[Asked]:
@@ -28,9 +26,6 @@ def of_structure(name: str, program: Program) -> Iterator[Warned]:
         tests = [it for code in program.codes for it in asked_in(code, event)]
         if tests and event not in posted_in(program):
             yield of_token('event-never-posted', name, tests[0].token, event=event)
-    for semaphore, value in program.semaphores.items():
-        for waiter in program.codes if not value else ():
-            yield from of_signal(name, program, semaphore, waiter)
 
 
 def of_start(name: str, program: Program) -> Iterator[Warned]:
@@ -81,42 +76,3 @@ def of_missed(name: str, code: Code) -> Iterator[Warned]:
                 yield of_token('misses-packets', name, it.token, line=heard[0].token.line,
                                test='fired(%s)' % timers[0].of)
                 return
-
-
-def of_signal(name: str, program: Program, semaphore: str, waiter: Code) -> Iterator[Warned]:
-    """The first `signal` behind which a process waits for ever, because nothing calls it."""
-    process = waiter.process.text
-    if not any(awaits(it, semaphore) for it in waiter.statements()) or is_called(program, waiter):
-        return
-    for code in program.codes:
-        for part in code.parts:
-            for it in statements_of(part.block):
-                if it.has('signal', semaphore) and (part.kind == 'ctimer' or code != waiter and is_later(part, it)):
-                    yield of_token('signal-wakes-nobody', name, it.token, semaphore=semaphore, process=process)
-                    return
-
-
-def awaits(it: Statement, semaphore: str) -> bool:
-    if it.kind == 'acquire':
-        return it.name == semaphore
-    return it.waits and any(test.of == semaphore for test in tests_in(it.value, 'count'))
-
-
-def is_called(program: Program, code: Code) -> bool:
-    """Returns whether a process doesn't start at boot, or something but the exit of another process may call it."""
-    process = code.process.text
-    if process not in program.starts or program.receiver and program.receiver.text == process:
-        return True
-    timers = {it.text for it in code.timers}
-    own = any(it.kind == 'pause' or it.kind in SETS and it.name in timers for it in code.statements())
-    return own or any(it.kind == 'broadcast' or it.kind in ('poll', 'post', 'synch', 'start', 'kill') and
-                      it.name == process for it in program.statements())
-
-
-def is_later(part: Part, signal: Statement) -> bool:
-    """Returns whether a `signal` is behind a wait of its process, or in a loop that waits."""
-    its = list(statements_of(part.block))
-    before = its[:its.index(signal)]
-    return any(it.waits for it in before) or any(
-        it.kind == 'while' and signal in (inner := list(statements_of(it.block))) and any(one.waits for one in inner)
-        for it in before)

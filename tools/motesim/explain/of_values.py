@@ -5,9 +5,9 @@ from collections.abc import Iterator
 
 from motesim.explain.warned import Warned, of_token
 from motesim.notation.operators import ARITHMETIC, VALUES
-from motesim.notation.tree import Code, Expression, Operation, Program, Statement, Value
+from motesim.notation.tree import Code, Operation, Program, Statement, Value
 from motesim.notation.printer import written
-from motesim.notation.tree import expressions_of, is_number
+from motesim.notation.tree import constant_of, expressions_of, is_number
 
 ORDER = ('<', '<=', '>', '>=')
 MIRRORED = {'<': '>', '>': '<', '<=': '>=', '>=': '<='}
@@ -34,14 +34,10 @@ def fixed_in(code: Code) -> dict[str, int]:
     return {name: value for name, value in code.variables.items() if name not in assigned}
 
 
-def exact(it: Expression, fixed: dict[str, int]) -> int | None:
+def exact(it: Operation, fixed: dict[str, int]) -> int | None:
     """The value of a calculation with numbers, before it is cut to 16 bits; None if it isn't known."""
-    if isinstance(it, Value):
-        return int(it.token.text) if is_number(it) else fixed.get(it.token.text)
-    if not isinstance(it, Operation) or it.token.text not in ARITHMETIC:
-        return None
-    left, right = exact(it.left, fixed), exact(it.right, fixed)
-    return None if left is None or right is None else ARITHMETIC[it.token.text](left % VALUES, right % VALUES)
+    left, right, work = constant_of(it.left, fixed), constant_of(it.right, fixed), ARITHMETIC.get(it.token.text)
+    return None if left is None or right is None or work is None else work(left, right)
 
 
 def of_test(name: str, it: Operation) -> Iterator[Warned]:

@@ -8,10 +8,9 @@ import re
 from collections.abc import Iterator
 from typing import Any
 
-from motesim.explain import synonyms
 from motesim.explain.edits import Correction, Edit, hint, replaced
 from motesim.scenario.faults import LOSS, MEDIUM, MOTE, TOP, Rule, ScenarioError, find_fault
-from motesim.scenario.places import Place, place_of, value_of
+from motesim.scenario.places import Path, Place, place_of, value_of
 from motesim.text import nearest
 from motesim.toml import NoToml, read_toml
 
@@ -38,6 +37,8 @@ LINES = [
     (r'(\s*)//(.*)', r'\1#\2', 'comment'),
     (r'(\s*\[\[?\s*\w+)\s*', r'\1]', 'open-bracket'),
 ]
+# Words in keys that ask for random losses or delays, which the medium doesn't have.
+OF_CHANCE = frozenset(('p', 'rate', 'probability', 'prob', 'random', 'seed', 'noise', 'chance', 'loss', 'drop', 'prr'))
 
 
 def repair(text: str, fault: ScenarioError) -> Correction | None:
@@ -94,13 +95,40 @@ def _of_header(text: str, fault: ScenarioError | None) -> Iterator[Correction]:
             yield hint('brackets', *(Edit(number, number, (right % name,)) for number in rows))
 
 
+def is_about_chance(key: str) -> bool:
+    """Returns whether a key asks for random losses or delays, such as `loss_probability`."""
+    return not OF_CHANCE.isdisjoint(key.lower().split('_'))
+
+
+def at(tables: object, path: Path) -> object:
+    """The value of a scenario at a path, or None."""
+    for name in path:
+        try:
+            tables = tables[name]  # type: ignore[index]
+        except (KeyError, IndexError, TypeError):
+            return None
+    return tables
+
+
+def like_of_missing(tables: object, fault: ScenarioError) -> str | None:
+    """The unknown key that most likely means the key that is missing in the same table: the most similar one, or the
+    only one. A table or an array is meant only for a key that has one, and no other value then."""
+    table, is_table = at(tables, fault.path), not fault.path and TOP[fault.missing].kind in (dict, list)
+    if not isinstance(table, dict):
+        return None
+    known = TABLES[str(fault.path[0])] if fault.path else {**TOP, 'queue': TOP['end']}
+    others = [name for name, value in table.items() if name not in known and (
+        isinstance(value, (dict, list)) if is_table else not isinstance(value, dict))]
+    return nearest(fault.missing, others) or (others[0] if len(others) == 1 else None)
+
+
 def _of_missing(text: str, tables: dict[str, Any], fault: ScenarioError) -> Iterator[Correction]:
     """Another key that most likely means the missing one; or an example of the missing one, below the name of its
     table."""
-    wanted, like = fault.missing, synonyms.like_of_missing(tables, fault)
-    if like and synonyms.is_about_chance(like):
+    wanted, like = fault.missing, like_of_missing(tables, fault)
+    if like and is_about_chance(like):
         yield hint('no-chance')
-    elif like and isinstance(synonyms.at(tables, (*fault.path, like)), list) <= (wanted in ('mote', 'loss')):
+    elif like and isinstance(at(tables, (*fault.path, like)), list) <= (wanted in ('mote', 'loss')):
         place = place_of(text, (*fault.path, like))
         begin = _row(text, place).find(like, place.column, place.column + place.length)
         if begin >= 0:
@@ -138,23 +166,22 @@ def _of_key(text: str, tables: dict[str, Any], fault: ScenarioError) -> Iterator
         return
     known = TABLES.get(str(fault.path[0]), {}) if len(fault.path) > 1 else {**TOP, 'queue': TOP['end']}
     if name in ('collide', 'queue') and tables.get('version') == 1:
-        at = value_of(text, ('version',))
-        yield hint('version-2', replaced(text, at.line, at.column, at.column + at.length, '2'), name=name)
-    like = None if synonyms.is_about_chance(name) else synonyms.meant(name, known)
+        its = value_of(text, ('version',))
+        yield hint('version-2', replaced(text, its.line, its.column, its.column + its.length, '2'), name=name)
+    like = None if is_about_chance(name) else nearest(name, known)
     if like and name in _row(text, place)[place.column:place.column + place.length]:
         begin = _row(text, place).index(name, place.column)
         yield hint('similar', replaced(text, place.line, begin, begin + len(name), like), name=like)
-    if synonyms.is_about_chance(name):
+    if is_about_chance(name):
         yield hint('no-chance')
-    code = synonyms.LEFT_OUT.get(name, 'no-key')
     if re.match(r'\s*%s\s*=' % re.escape(name), _row(text, place)):
-        yield hint(code, Edit(place.line, place.line, ()), name=name)
-    yield hint(code, name=name)
+        yield hint('no-key', Edit(place.line, place.line, ()), name=name)
+    yield hint('no-key', name=name)
 
 
 def _of_program(text: str, tables: dict[str, Any], fault: ScenarioError) -> Iterator[Correction]:
     """The name of a program that doesn't exist."""
-    names, value = list(tables['programs']), synonyms.at(tables, fault.path)
+    names, value = list(tables['programs']), at(tables, fault.path)
     named = value if isinstance(value, str) else str(fault.path[-1])
     like = nearest(named, names) or (names[0] if len(names) == 1 else None)
     if like:
@@ -165,7 +192,7 @@ def _of_program(text: str, tables: dict[str, Any], fault: ScenarioError) -> Iter
 
 def _of_value(text: str, tables: dict[str, Any], fault: ScenarioError) -> Iterator[Correction]:
     """A value of another kind, or out of range: the same number or text in the right kind, or the nearest number."""
-    name, value, place = str(fault.path[-1]), synonyms.at(tables, fault.path), fault.place(text)
+    name, value, place = str(fault.path[-1]), at(tables, fault.path), fault.place(text)
     rule = {**TOP, **MEDIUM, **LOSS, **MOTE, 'collide': Rule(bool)}.get(name)
     # (a share of lost packets is no period)
     is_share = name == 'every' and not (type(value) is float and value.is_integer() or str(value).isdecimal())

@@ -4,8 +4,7 @@ from __future__ import annotations
 from collections.abc import Sequence
 
 from motesim.explain.edits import Correction, Edit
-from motesim.explain.warned import Doing, Warned
-from motesim.terminal import one_line
+from motesim.explain.warned import Warned
 from motesim.text import Shown
 
 HALTS = 'repeats until the mote\'s work is used up, and then the mote halts'
@@ -44,8 +43,6 @@ TEXTS = {
     'too-large': '`{sum}` would be {value}, but the greatest value is 65,535: the result is {result}',
     'never-assigned': '`{variable}` is always {value} here: no statement assigns to it',
     'no-time': '`{value}` is {result}, so the timer is due {due}',
-    'signal-wakes-nobody': '`signal {semaphore}` posts no event, and nothing else calls the process `{process}`, which '
-                           'waits for this semaphore; write `poll {process};` below the `signal`',
     'broadcast-stays': 'the program waits for packets, but this `broadcast` posts an event only to the processes of its '
                        'own mote; `send {value};` sends a packet by radio',
     'unused-program': 'no mote runs the program `{program}`',
@@ -91,8 +88,6 @@ HINTS = {
     'needs': 'The table needs `{wanted}`, such as `{wanted} = {value}`.',
     'version-2': '`{name}` belongs to version 2.',
     'no-key': 'There is no key `{name}` in this table.',
-    'numbered': 'Motes have no `{name}`: they are numbered from 0, in the order of the file.',
-    'plane': 'Motes are in a plane: a place has only `x` and `y`.',
     'value': 'Write `{name} = {value}`.',
     'at-least': '`{name}` is at least {bound:,}.',
     'at-most': '`{name}` is at most {bound:,}.',
@@ -103,16 +98,14 @@ HINTS = {
 }
 # What a run does most, and what is said about it.
 DOES = {
-    'print': 'process {process} of mote {mote} prints {times:,} times', 'send': 'mote {mote} sends {times:,} packets',
-    'pause': 'process {process} of mote {mote} pauses {times:,} times',
-    'post': 'mote {mote} posts {times:,} events to process {process}',
+    'print': 'process {process} of mote {mote} prints {times:,} times: does a loop repeat without end?',
+    'send': 'mote {mote} sends {times:,} packets: does a loop repeat without end?',
+    'pause': 'process {process} of mote {mote} pauses {times:,} times: a `pause` lets no time pass, so a loop that only '
+             'pauses repeats many times in each moment; let the process wait by `yield_until`.',
+    'post': 'mote {mote} posts {times:,} events to process {process}: does a loop repeat without end?',
     'storm': 'the motes send {packets:,} packets, {times:,} of them mote {mote}: does each packet that arrives lead to '
              'another one?',
 }
-IS_ENDLESS = ': does a loop repeat without end?'
-ONLY_PAUSES = ('. A `pause` lets no time pass, so this loop repeats many times in each moment. Let it wait for a timer '
-               'instead, such as `set t 10; yield_until fired(t);`.')
-PAUSES = ': a loop that only pauses repeats many times in each moment, so let the process wait by `yield_until`.'
 # What is known about the loop that used up the work of a mote.
 OF_LOOP = '. The loop on line {line} of program {program} repeated {rounds} times in one call'
 NAMES = tuple(TEXTS)
@@ -153,13 +146,6 @@ def edits_in_words(edits: Sequence[Edit]) -> list[Shown]:
     return found
 
 
-def doing_in_words(it: Doing) -> str:
-    """A sentence about what a run does most."""
-    found = ' Up to moment %d, %s' % (it.end, DOES[it.kind].format_map(it._asdict()))
-    if it.lines:
-        where = ', '.join('line %d' % line for line in it.lines)
-        turns = ['`%s` (line %d)' % loop for loop in reversed(it.loops)]
-        found += ' (%s%s)%s' % (where, ' of program %s' % one_line(it.program) if it.program else '',
-                                ', in each turn of ' * bool(turns) + ' within '.join(turns))
-    return found + ('' if it.kind == 'storm' else PAUSES if it.kind == 'pause' else
-                    ONLY_PAUSES if it.only_pauses else IS_ENDLESS)
+def does_in_words(kind: str, mote: int, process: str, times: int, end: int, packets: int) -> str:
+    """A sentence about what a run does most, up to a moment: so many times, or so many of all packets."""
+    return ' Up to moment %d, %s' % (end, DOES[kind].format(mote=mote, process=process, times=times, packets=packets))

@@ -1,4 +1,4 @@
-"""Warnings, and what a run does most, as data. `motesim.explain.say` has their texts."""
+"""Warnings as data. `motesim.explain.say` has their texts."""
 from __future__ import annotations
 
 from collections.abc import Iterable
@@ -31,28 +31,6 @@ class Warned(NamedTuple):
         if self.loss is not None:
             return 'loss', self.loss
         return None if self.mote is None else ('mote', self.mote)
-
-
-class Doing(NamedTuple):
-    """What a run does most, up to a moment.
-
-    kind         print or pause: a process does it; send: a mote; post: a mote, to a process; storm: all motes send
-    times        how often; `packets` is the number of all packets of a storm
-    lines        the lines of a program on which it is done, and `loops` those around them, each with its head and its
-                 line, the outermost first
-    only_pauses  whether the outermost loop is endless and waits only by `pause`
-    program      the program whose text has these lines; if it is empty, they are those of the file
-    """
-    kind: str
-    mote: int
-    process: str
-    times: int
-    end: int = 0
-    packets: int = 0
-    lines: tuple[int, ...] = ()
-    loops: tuple[tuple[str, int], ...] = ()
-    only_pauses: bool = False
-    program: str = ''
 
 
 def of_token(name: str, program: str, token: Token, **facts: Fact) -> Warned:

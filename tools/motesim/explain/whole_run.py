@@ -16,14 +16,20 @@ from motesim.scenario.faults import find_fault
 from motesim.text import folded
 
 
-def status_of(file: str, options: Sequence[str], faults: Sequence[str] = ()) -> int:
-    """The work of `motesim run`, with these faults; returns the status."""
-    data = read_file(file)
-    refuse_others(file)
+def explained(file: str, data: bytes) -> bool:
+    """Explains the error of a scenario; returns whether it has one."""
     fault = find_fault(data)
     if fault:
         line = 'motesim: ' + fault.message
         print('\n'.join([line, *folded(explanation(file, data, line))]), file=sys.stderr)
+    return fault is not None
+
+
+def status_of(file: str, options: Sequence[str], faults: Sequence[str] = ()) -> int:
+    """The work of `motesim run`, with these faults; returns the status."""
+    data = read_file(file)
+    refuse_others(file)
+    if explained(file, data):
         return FAILED
     called: list[str | Path] = [program_path(CHECKER), '--report', *options_of(faults), '/dev/stdin'] if faults else [program_path()]
     done = subprocess.run([*called, *options], input=data, stderr=subprocess.PIPE)

@@ -13,14 +13,16 @@ nothing else; numbers are in network order:
     bytes 16-19 the moment of sending
     bytes 20-27 the moment of arrival; all bits set if there is none
 
-`motesim.lua` next to this file reads it.
+`motesim.lua` next to this file reads it. In a report all lines of a turn have the same moment, and a capture would
+show them at one time. So here a moment counts as a millisecond, and the lines of a turn are a microsecond apart, in
+their order, or closer if a turn has so many that they would reach the next moment. Times are in nanoseconds.
 """
 from __future__ import annotations
 
 import struct
 from collections.abc import Iterator
+from itertools import groupby
 
-from motesim.export.times import copies, sends
 from motesim.faults import Fault
 from motesim.report import Report
 
@@ -31,6 +33,9 @@ ALL, NEVER = 0xFFFF, 2 ** 64 - 1
 SECTION, INTERFACE, RECORD = 0x0A0D0D0A, 1, 6
 NANOSECONDS = 9
 INBOUND, OUTBOUND = 1, 2
+MOMENT, STEP = 1_000_000, 1_000
+# The lines about packets that are sent, and about copies that arrive.
+OF_PACKETS = ('send', 'recv', 'lost', 'collide')
 
 
 def padded(data: bytes) -> bytes:
@@ -75,14 +80,31 @@ def pcapng(report: Report) -> Iterator[bytes]:
         raise Fault('the report has a number that is too great for a capture file') from None
 
 
+def times_of(report: Report) -> dict[tuple[int, int, int], int]:
+    """The time of each line about a packet, by the line's mote, and by the packet's sender and number."""
+    found = {}
+    for mote in report.motes:
+        for at, turn in groupby(mote.lines, lambda line: line.at):
+            lines = list(turn)
+            step = min(STEP, MOMENT // (len(lines) + 1))
+            found.update({(mote.number, *line.packet): at * MOMENT + place * step for place, line in enumerate(lines)
+                          if line.packet and line.kind in OF_PACKETS})
+    return found
+
+
 def blocks(report: Report) -> Iterator[bytes]:
+    """The blocks. A copy that the medium loses ends when it is sent, and a copy without a line at its arrival."""
     yield section()
     for mote in report.motes:
         yield interface('mote %d' % mote.number, mote.program)
-    records = [(it.time, 0, it.sender, OUTBOUND, header('sent', it.sender, ALL, it.number, it.value, it.at, None))
-               for it in sends(report)]
-    for it in copies(report):
-        data = header(it.what, it.sender, it.to, it.number, it.value, it.sent_at, it.arrival)
-        records.append((it.ended, 1, it.to, INBOUND, data))
+    times, records = times_of(report), []
+    for it in report.medium:
+        time = times.get((it.sender, it.sender, it.number), it.at * MOMENT)
+        records.append((time, 0, it.sender, OUTBOUND, header('sent', it.sender, ALL, it.number, it.value, it.at, None)))
+    for it, copy, what in report.outcomes():
+        key = (it.sender, it.number)
+        time = times.get((it.sender, *key), it.at * MOMENT) if copy.at is None else times.get(
+            (copy.to, *key), copy.at * MOMENT)
+        records.append((time, 1, copy.to, INBOUND, header(what, it.sender, copy.to, it.number, it.value, it.at, copy.at)))
     for time, _, here, direction, data in sorted(records):
         yield record(here, time, direction, data)

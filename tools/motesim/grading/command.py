@@ -8,15 +8,12 @@ from collections.abc import Sequence
 from pathlib import Path
 
 from motesim.faults import Fault
-from motesim.files import refuse_inputs, replace_whole
+from motesim.files import refuse_inputs, write_whole
 from motesim.grading import page, tables
-from motesim.grading.entries import Entry, data_of, decoded, entries_of
-from motesim.grading.marking import Task, page_name
+from motesim.grading.entries import Entry, entries_of
+from motesim.grading.marking import Task
 from motesim.grading.marks import Marks, unmarked
-from motesim.grading.nets import (
-    Net, files_of, hidden_and_shown, nets_of, nets_with_cut_off, program_of, without_nets,
-)
-from motesim.grading.pages import keep_names, pages_of, remove_earlier
+from motesim.grading.nets import files_of, nets_of
 from motesim.progress import Progress
 from motesim.judge.expectations import parts_of, text_of
 from motesim.judge.names import Names, names_of
@@ -26,12 +23,10 @@ from motesim.runner.programs import CHECKER
 from motesim.terminal import one_line
 
 MEGABYTE = 1 << 20
-# The most names of solutions that an error lists.
-MOST_NAMES = 20
+# The most names of solutions that an error lists, and those of files without a row that a remark lists.
+MOST_NAMES, MOST_LISTED = 20, 5
 # The width of the line about the progress.
 WIDTH = 100
-# The most nets or files in a remark.
-MOST_LISTED = 5
 # The seconds for each net in addition to its run: for reading and judging its report.
 SPARE = 60
 
@@ -52,7 +47,7 @@ def grade(entries: Sequence[Entry], task: Task, jobs: int | None = None) -> list
     return [found[number] for number in sorted(found)]
 
 
-def task_of(asked: argparse.Namespace, pictures: Path | None) -> Task:
+def task_of(asked: argparse.Namespace) -> Task:
     """The task of all solutions. Faults of the sentences and of the nets are the teacher's."""
     name = str(asked.expectations)
     part = parts_of(text_of(asked.expectations), name)[0]
@@ -65,62 +60,16 @@ def task_of(asked: argparse.Namespace, pictures: Path | None) -> Task:
     except Fault as fault:
         raise Fault('%s: %s' % (name, fault)) from None
     limits = Limits(asked.seconds, asked.memory * MEGABYTE, asked.report * MEGABYTE)
-    return Task(part, tuple(nets), limits, pictures, asked.why is not None, tuple(predicates))
+    return Task(part, tuple(nets), limits, page.folder_of(asked.output) if asked.output else None, tuple(predicates))
 
 
-def spoken_of_by_none(marked: Sequence[Marks], sentences: Sequence[str]) -> list[str]:
-    """Lines about sentences with names that no solution has: most likely a mistake in the sentences."""
-    known = [it for it in marked if it.lacks and not it.why]
-    lines = []
-    for number, (sentence, *lacks) in enumerate(zip(sentences, *(it.lacks for it in known)), 1):
-        if lacks and all(lacks):
-            lines.append('expectation %d names something that no solution has (%s): %s has %s' % (
-                number, sentence, known[0].name, lacks[0]))
-    return lines
-
-
-def write(path: Path, marked: Sequence[Marks], sentences: Sequence[str], task: Task, expectations: Path) -> None:
-    """Writes the marks into a file, in the format that its ending names."""
-    if path.suffix == '.csv':
-        text = tables.csv_of(marked, sentences)
-    else:
-        text = page.page_of(marked, sentences, 'Grades: %s' % one_line(expectations.name), pages_of(path).name,
-                            time.strftime('%Y-%m-%d at %H:%M'), bool(task.nets))
-    replace_whole(path, [text.encode('utf-8')])
-    print(path)
-
-
-def refuse_all_inputs(asked: argparse.Namespace, entries: Sequence[Entry]) -> None:
-    """Raises a fault if the marks would replace the expectations, a net or a solution."""
-    solutions = [it.path for it in entries if it.is_solution]
-    inputs = [asked.expectations, *files_of([*asked.net, *asked.hidden]), *solutions]
-    for path in asked.output:
-        # (a link is replaced, so the file to which it points stays)
-        if not path.is_symlink():
-            refuse_inputs(path, inputs)
-
-
-def write_scenarios(folder: Path, entries: Sequence[Entry], task: Task) -> None:
-    """Writes the program of each entry in each net as a scenario, for the studio and the other tools."""
-    if not task.nets:
-        raise Fault('--write needs a net: name one with --net or --hidden')
-    folder.mkdir(parents=True, exist_ok=True)
-    count = 0
-    for number, entry in enumerate(entries, 1):
-        for net in task.nets:
-            try:
-                if entry.why:
-                    raise Fault(entry.why)
-                text = net.with_program(program_of(decoded(data_of(entry)), entry.path.name, net.program))
-            except Fault as fault:
-                print('grade: %s isn\'t written: %s' % (one_line(entry.name), fault), file=sys.stderr)
-                break
-            name = page_name(number, entry.name, net.name).removesuffix('.html').removesuffix('.toml')
-            # (a file NAME.plan.toml would be a plan)
-            path = folder / ('%s.toml' % name.replace('.plan', '_plan'))
-            replace_whole(path, [text.encode('utf-8')])
-            count += 1
-    print('%s: %d %s' % (one_line(str(folder)), count, 'scenario' if count == 1 else 'scenarios'))
+def refuse_all_inputs(asked: argparse.Namespace) -> None:
+    """Raises a fault if the grades would replace the expectations or a net, or would be among the solutions."""
+    for path in (asked.output, Path(asked.csv) if asked.csv and asked.csv != '-' else None):
+        if path:
+            refuse_inputs(path, [asked.expectations, *files_of([*asked.net, *asked.hidden])])
+            if asked.folder.resolve() in path.resolve().parents:
+                raise Fault('%s would be among the solutions: write the grades into another folder' % path)
 
 
 def entry_of(name: str, entries: Sequence[Entry], folder: Path) -> Entry:
@@ -137,45 +86,30 @@ def entry_of(name: str, entries: Sequence[Entry], folder: Path) -> Entry:
         ', '.join(names[:MOST_NAMES]) + ', ..' * (len(names) > MOST_NAMES)))
 
 
-def remarks(asked: argparse.Namespace, nets: Sequence[Net], skipped: Sequence[str]) -> list[str]:
-    """Lines on things that a teacher may not have meant: combinations of values without a net, nets that are hidden
-    and shown, motes that are cut off, and files without a row."""
-    lines = without_nets(asked.param)
-    for remark, names in (
-            ('these hidden nets equal a shown net, so a page of grades shows them', hidden_and_shown(nets)),
-            ('in these nets no packet of the other motes reaches some motes', nets_with_cut_off(nets)),
-            ('hidden files, expectations and grades have no row', skipped)):
-        if names:
-            more = ' and {:,} more'.format(len(names) - MOST_LISTED) if len(names) > MOST_LISTED else ''
-            lines.append('%s: %s%s' % (remark, ', '.join(names[:MOST_LISTED]), more))
-    return lines
+def write_page(asked: argparse.Namespace, task: Task, marked: Sequence[Marks], sentences: Sequence[str]) -> None:
+    """Writes the page of the grades."""
+    text = page.page_of(marked, sentences, 'Grades: %s' % one_line(asked.expectations.name),
+                        page.folder_of(asked.output).name, time.strftime('%Y-%m-%d at %H:%M'), bool(task.nets))
+    write_whole(asked.output, [text.encode('utf-8')])
+    print(asked.output)
 
 
 def status_of(asked: argparse.Namespace) -> int:
     """The work of tools/grade; returns the status."""
     program_path()
     program_path(CHECKER)
-    pages = [path for path in asked.output if path.suffix == '.html']
-    pictures = pages_of(pages[0]) if pages else None
-    task = task_of(asked, pictures)
+    task = task_of(asked)
     entries, skipped = entries_of(asked.folder)
-    refuse_all_inputs(asked, entries)
+    refuse_all_inputs(asked)
     if asked.why is not None:
         entries = [entry_of(asked.why, entries, asked.folder)]
-    if asked.write:
-        write_scenarios(asked.write, entries, task)
-    if pictures:
-        remove_earlier(pictures)
-        # (the list has all pages that the marking may write, because the user can end it at any time)
-        keep_names(pictures, task.possible_pictures(entries))
-    for line in remarks(asked, task.nets, skipped) if asked.why is None else ():
-        print('grade: %s' % line, file=sys.stderr)
+    elif skipped:
+        print('grade: hidden files and expectations have no row: %s%s' % (
+            ', '.join(skipped[:MOST_LISTED]), ', ..' * (len(skipped) > MOST_LISTED)), file=sys.stderr)
+    if task.pictures:
+        task.pictures.mkdir(parents=True, exist_ok=True)
     marked = grade(entries, task, asked.jobs)
-    if pictures:
-        keep_names(pictures, [it.picture for it in marked if it.picture])
     sentences = tables.sentences_of(marked) or task.part.sentences
-    for line in spoken_of_by_none(marked, sentences) if asked.why is None else ():
-        print('grade: %s' % line, file=sys.stderr)
     if asked.why is not None:
         print('\n'.join(tables.why(marked[0])))
     elif asked.csv:
@@ -183,6 +117,6 @@ def status_of(asked: argparse.Namespace) -> int:
     elif not asked.output:
         print('\n'.join([*tables.table(marked, sentences), '', *tables.below(marked, sentences),
                          *tables.pointer(marked)]))
-    for path in asked.output:
-        write(path, marked, sentences, task, asked.expectations)
+    if asked.output:
+        write_page(asked, task, marked, sentences)
     return 1 if any(it.is_open for it in marked) else 0

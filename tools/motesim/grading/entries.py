@@ -6,7 +6,6 @@ opened, and at most as many bytes are read as a scenario may have.
 from __future__ import annotations
 
 import os
-import re
 import stat
 from collections.abc import Iterator
 from itertools import islice
@@ -14,10 +13,8 @@ from pathlib import Path
 from typing import NamedTuple
 
 from motesim.faults import Fault
-from motesim.grading.own import own_of
 from motesim.scenario.faults import LONGEST_TEXT
 from motesim.terminal import one_line
-from motesim.toml import MARK
 
 SUFFIXES = ('.toml', '.mote')
 OF_TEACHER = '.expect.toml'
@@ -36,15 +33,6 @@ class Entry(NamedTuple):
     is_solution: bool = True
 
 
-def _kind(mode: int) -> str:
-    """The kind of an entry that is neither a plain file nor a folder."""
-    for test, what in ((stat.S_ISLNK, 'a link'), (stat.S_ISFIFO, 'a pipe'), (stat.S_ISSOCK, 'a socket'),
-                       (stat.S_ISCHR, 'a device'), (stat.S_ISBLK, 'a device')):
-        if test(mode):
-            return '%s, and not a file' % what
-    return 'not a file'
-
-
 def _why_by_name(name: str) -> str:
     """The reason why a plain file has no mark, if its name isn't that of a solution."""
     why = 'its name ends neither in .toml nor in .mote'
@@ -57,11 +45,10 @@ def _why_by_name(name: str) -> str:
 
 def _entries(folder: Path, top: Path, depth: int, skipped: list[str]) -> Iterator[Entry]:
     """The entries of a folder and of the folders in it. An empty folder is an entry. `skipped` gets the names of the
-    files that are none; of the many pages that a marking wrote into a folder of their own, it gets no name."""
+    files that are none."""
     name = one_line(str(folder.relative_to(top)))
     try:
         found = sorted(os.scandir(folder), key=lambda it: os.fsencode(it.name))
-        own = own_of(folder)
     except OSError as fault:
         yield Entry(name, folder, 'the folder can\'t be read: %s' % fault.strerror)
         return
@@ -74,22 +61,21 @@ def _entries(folder: Path, top: Path, depth: int, skipped: list[str]) -> Iterato
         except OSError as fault:
             yield Entry(its, path, '%s' % fault.strerror)
             continue
-        if it.name in own or it.name.startswith('.') or stat.S_ISREG(mode) and it.name.endswith(OF_TEACHER):
-            skipped += [its] * (it.name not in own or depth == 0)
+        if it.name.startswith('.') or stat.S_ISREG(mode) and it.name.endswith(OF_TEACHER):
+            skipped.append(its)
         elif stat.S_ISDIR(mode) and depth < DEEPEST:
             yield from _entries(path, top, depth + 1, skipped)
         elif stat.S_ISDIR(mode):
             yield Entry(its, path, 'folders are nested too deeply')
         elif not stat.S_ISREG(mode):
-            yield Entry(its, path, _kind(mode))
+            yield Entry(its, path, 'not a file: a link, a pipe or a socket')
         else:
             is_solution = it.name.endswith(SUFFIXES)
             yield Entry(its, path, '' if is_solution else _why_by_name(it.name), is_solution)
 
 
 def entries_of(folder: Path) -> tuple[list[Entry], list[str]]:
-    """All entries of a folder, by name; and the names of the files that have no row: hidden files, expectations and
-    marks."""
+    """All entries of a folder, by name; and the names of the files that have no row: hidden files and expectations."""
     if not folder.is_dir():
         raise Fault('%s is a file: name the folder of the solutions' % folder if folder.exists() else
                     'there is no folder %s' % folder)
@@ -100,14 +86,6 @@ def entries_of(folder: Path) -> tuple[list[Entry], list[str]]:
     if not found:
         raise Fault('%s has no solution: a scenario NAME.toml or a program NAME.mote' % folder)
     return found, skipped
-
-
-def without_program(entry: Entry, text: str) -> str:
-    """The reason why a file has no program: it is empty, or has only comments. Otherwise an empty text."""
-    text = text.removeprefix(MARK).strip()
-    if re.sub('#[^\n]*' if entry.path.suffix == '.toml' else '//[^\n]*', '', text).strip():
-        return ''
-    return 'the file has only comments, and no program' if text else 'the file is empty: it has no program'
 
 
 def decoded(data: bytes) -> str:

@@ -9,11 +9,9 @@ from pathlib import Path
 from motesim.explain.explanation import explanation, of_program_file, tables_or_none
 from motesim.explain.within import busiest
 from motesim.faults import Fault, tried
-from motesim.files import replace_whole
-from motesim.grading.entries import Entry, data_of, decoded, without_program
+from motesim.grading.entries import Entry, data_of, decoded
 from motesim.grading.marks import LONGEST_WHY, Mark, Marks, MarksInNet, over_nets, spread, unmarked
-from motesim.grading.nets import Net, program_of, unused_of
-from motesim.grading.warned import net_warned, seen_of, warned_of
+from motesim.grading.nets import Net, program_of
 from motesim.judge.expectations import REFUSED, Part, by_python, known_of, of_report, refused
 from motesim.judge.finder import Finder
 from motesim.judge.predicates import Predicate
@@ -25,6 +23,7 @@ from motesim.runner import LimitMet, Limits, Runner
 from motesim.report.run import Answer, Run
 from motesim.scenario import Scenario
 from motesim.scenario.faults import find_fault
+from motesim.scenario.in_programs import ScenarioFile
 from motesim.text import folded
 from motesim.timeline.html import write_page
 from motesim.timeline.note import Note, note_of
@@ -50,13 +49,11 @@ class Ended(Fault):
 @dataclass(frozen=True)
 class Task:
     """The parts that all solutions have in common: the sentences, the nets (if there are none, each solution has its
-    own), the limits, whether the reason of the first broken sentence has the lines that are nearest to the wanted one,
-    and the functions in Python that the expectations name."""
+    own), the limits, the folder of the pages of runs, and the functions in Python that the expectations name."""
     part: Part
     nets: tuple[Net, ...]
     limits: Limits
     pictures: Path | None = None
-    has_nearest: bool = False
     predicates: tuple[Predicate, ...] = ()
 
     def of(self, numbered: tuple[int, Entry]) -> Marks:
@@ -79,9 +76,6 @@ class Task:
             text = decoded(data)
         except Fault as fault:
             return Marks(entry.name, why=str(fault))
-        lacks = without_program(entry, text)
-        if lacks:
-            return Marks(entry.name, why=lacks)
         try:
             found = self.in_nets(entry, text)
         except LimitMet as fault:
@@ -92,8 +86,6 @@ class Task:
             why = fault.which if isinstance(fault, UnknownSentence) else str(fault)
             return Marks(entry.name, why=why, fix=self.fix(entry, data))
         marks = self.together(entry.name, found)
-        if self.nets:
-            marks = replace(marks, unused=unused_of(text, entry.path.name, self.nets[0]))
         # (a file whose programs are expected to be refused keeps its marks)
         if any(its.is_refused for its in found):
             return replace(marks, fix=self.fix(entry, data))
@@ -102,15 +94,14 @@ class Task:
     def in_nets(self, entry: Entry, text: str) -> list[MarksInNet]:
         """The marks of a solution in each net; without nets, in its own."""
         # (messages name lines by the solution's file; the name of an anonymous solution has the same ending)
-        file = entry.name.removesuffix(entry.path.suffix).rpartition('/')[2] + entry.path.suffix, text
+        file = ScenarioFile(entry.name.removesuffix(entry.path.suffix).rpartition('/')[2] + entry.path.suffix, text)
         if not self.nets:
             return [self.in_net(text, file)]
-        return [self.in_net(net.with_program(program_of(text, entry.path.name, net.program)), file, net.program)
+        return [self.in_net(net.with_program(program_of(text, entry.path.name, net.program)), file)
                 ._replace(net=net.name, is_hidden=net.is_hidden) for net in self.nets]
 
-    def in_net(self, text: str, file: tuple[str, str], program: str = '') -> MarksInNet:
-        """The marks of a scenario. `file` is the name and the text of the solution's file. `program` is the program
-        that the solution has; if it is empty, all programs of the scenario are the solution's."""
+    def in_net(self, text: str, file: ScenarioFile) -> MarksInNet:
+        """The marks of a scenario. `file` is the solution's file."""
         known, names = known_of(text)
         lacks = [lacking(it, names) for it in self.part.sentences]
         part = replace(self.part, sentences=[it for it, lack in zip(self.part.sentences, lacks) if not lack])
@@ -127,10 +118,8 @@ class Task:
         verdicts = of_report(part, sentences, Finder(report, scenario), self.limits) + by_python(self.predicates, report)
         held = [Mark(it.sentence, it.holds, (), tuple(it.more), remark=it.remark, broken=it.broken) for it in verdicts]
         marks = [*spread(held, self.part.sentences, lacks), *held[len(sentences):]]
-        programs = {program: scenario.programs[program]} if program else scenario.programs
         return MarksInNet(marks, lacks, run=Run('', report, scenario, file) if len(got.report) <= MOST_SHOWN else None,
-                     bytes=len(got.report), halts=halt_of(report), moments=seen_of(scenario, report, program),
-                     warned=warned_of(programs, text))
+                          bytes=len(got.report))
 
     def answer(self, scenario: bytes) -> Answer:
         """The answer of `motesim`, within the limits. The error at a limit says what the run does most often."""
@@ -139,28 +128,21 @@ class Task:
         except LimitMet as fault:
             if fault.limit == 'clock':
                 raise
-            does = busiest(scenario, False)
+            does = busiest(scenario)
             raise Ended('the run was ended: %s%s%s' % (fault, '.' * bool(does), does.rstrip('.'))) from None
 
     def together(self, name: str, found: Sequence[MarksInNet]) -> Marks:
         """The marks over all nets: a sentence holds if it holds in each."""
         why = ' '.join(next((its.why for its in found if its.why), '').split())[:LONGEST_WHY]
         lacks = [next((it for it in each if it), '') for each in zip(*(its.lacks for its in found))]
-        halts, shown = (next((it.halts + (' in %s' % it.net if it.net else '') for it in its if it.halts), '')
-                        for its in (found, [it for it in found if not it.is_hidden]))
-        moments = next((it.moments for it in found if it.moments and not it.is_hidden), ())
-        return Marks(name, over_nets(found, self.part.required), why, tuple(lacks), halts=halts, shown_halts=shown,
-                     warned=(*found[0].warned, *moments))
+        return Marks(name, over_nets(found, self.part.required), why, tuple(lacks))
 
     def with_run(self, number: int, marks: Marks, found: Sequence[MarksInNet]) -> Marks:
         """The marks of a solution that runs, with what its run shows about the first sentence that fails."""
         index, net = first_shown(marks, found)
         if net is None:
             return marks
-        if net.run and net.run.scenario:
-            marks = replace(marks, warned=(*marks.warned, *net_warned(net.run.scenario, net.run.report, not self.nets)))
         picture, no_page = self.picture(number, marks, index, net)
-        marks = with_nearest(marks, index, net) if self.has_nearest else marks
         return replace(marks, picture=picture, pictured=index if picture else None, no_page=no_page)
 
     def fix(self, entry: Entry, data: bytes) -> tuple[str, ...]:
@@ -182,11 +164,6 @@ class Task:
                 lines = explanation(entry.name, data, 'motesim: ' + fault.message) if fault else []
         return tuple(line[:LONGEST_WHY] for line in folded(lines)[:MOST_LINES])
 
-    def possible_pictures(self, entries: Sequence[Entry]) -> list[str]:
-        """The names of all pages that the marking of these entries may write."""
-        nets = [net.name for net in self.nets if not net.is_hidden] if self.nets else ['']
-        return [page_name(number, entry.name, net) for number, entry in enumerate(entries, 1) for net in nets]
-
     def picture(self, number: int, marks: Marks, index: int, its: MarksInNet) -> tuple[str, str]:
         """Writes a page with the timeline of a sentence that fails in a net. Returns the name of the page, or the
         reason why there is none."""
@@ -198,8 +175,7 @@ class Task:
         run = its.run._replace(name=marks.name + (' in %s' % its.net if its.net else ''))
         others = [at for at, it in enumerate(its.marks) if not it.holds and at != index][:MOST_OTHERS]
         note = note_in(its.run, its, index)._replace(others=tuple(note_in(its.run, its, at) for at in others))
-        write_page(self.pictures / name, '%s: %s' % (marks.name, its.marks[index].sentence), [run], note=note,
-                   write=replace_whole)
+        write_page(self.pictures / name, '%s: %s' % (marks.name, its.marks[index].sentence), [run], note=note)
         return name, ''
 
 
@@ -209,17 +185,6 @@ def note_in(run: Run, its: MarksInNet, index: int) -> Note:
     return note_of(run, mark.sentence, mark.broken, mark.more)
 
 
-def with_nearest(marks: Marks, index: int, its: MarksInNet) -> Marks:
-    """The marks, with the lines nearest to the one that the sentence of this index wants, if no line breaks it."""
-    mark, broken = marks.marks[index], its.marks[index].broken
-    if its.run is None or broken is None or broken.row or mark.nets[:1] not in ((), (its.net,)):
-        return marks
-    run = its.run
-    lines = tried(lambda: tuple(it.text for it in note_in(run, its, index).lines), lambda words: ())
-    longer = mark._replace(more=(*mark.more, *(it for it in lines if it not in mark.more)))
-    return replace(marks, marks=(*marks.marks[:index], longer, *marks.marks[index + 1:]))
-
-
 def first_shown(marks: Marks, found: Sequence[MarksInNet]) -> tuple[int, MarksInNet | None]:
     """The index of the first sentence that fails in a net that isn't hidden, and the first such net."""
     for index, mark in enumerate(marks.marks):
@@ -227,12 +192,6 @@ def first_shown(marks: Marks, found: Sequence[MarksInNet]) -> tuple[int, MarksIn
             if not mark.holds and not its.marks[index].holds and not its.is_hidden:
                 return index, its
     return 0, None
-
-
-def halt_of(report: Report) -> str:
-    """The first mote that halts in a report, with the moment; an empty text if none does."""
-    last = ((mote.number, mote.lines[-1]) for mote in report.motes if mote.lines)
-    return next(('mote %d halts at %d' % (number, it.at) for number, it in last if it.kind == 'halt'), '')
 
 
 def page_name(number: int, solution: str, net: str) -> str:

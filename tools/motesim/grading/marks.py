@@ -55,10 +55,6 @@ class Marks:
              pictures; and `pictured`, the place of this sentence
     no_page  the reason why there is no such page, though pages were asked for
     fix      for a refused scenario or program, the place of its error, and the correction
-    halts    the first mote that halts in a net, if one does; and `shown_halts` in a net that isn't hidden
-    warned   the warnings about its programs; and in a net that isn't hidden, those about packets of one moment and,
-             if a sentence is broken, about losses, ranges and seeds
-    unused   its programs that no mote of the nets runs, in words
     """
     name: str
     marks: tuple[Mark, ...] = ()
@@ -70,10 +66,6 @@ class Marks:
     fix: tuple[str, ...] = ()
     is_open: bool = False
     is_solution: bool = True
-    halts: str = ''
-    shown_halts: str = ''
-    warned: tuple[str, ...] = ()
-    unused: str = ''
 
     @property
     def has_mark(self) -> bool:
@@ -86,7 +78,7 @@ class Marks:
                       for it in self.marks)
         lacks = tuple(cut(one_line(it), LONGEST_WHY) for it in self.lacks)
         return replace(self, marks=marks, why=cut(one_line(self.why), LONGEST_WHY), lacks=lacks,
-                       fix=lines_of(self.fix), unused=cut(one_line(self.unused), LONGEST_WHY))
+                       fix=lines_of(self.fix))
 
     @property
     def short_name(self) -> str:
@@ -119,9 +111,6 @@ class MarksInNet(NamedTuple):
     net: str = ''
     is_hidden: bool = False
     bytes: int = 0
-    halts: str = ''
-    warned: tuple[str, ...] = ()
-    moments: tuple[str, ...] = ()
 
 
 def spread(held: Iterable[Mark], sentences: Sequence[str], lacks: Sequence[str]) -> list[Mark]:

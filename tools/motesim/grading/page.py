@@ -3,14 +3,17 @@ from __future__ import annotations
 
 from collections.abc import Sequence
 from html import escape
+from pathlib import Path
 from urllib.parse import quote
 
 from motesim.grading.marks import Marks
-from motesim.grading.own import OF_PAGE
 from motesim.grading.tables import count_of, holds, required_of
 from motesim.judge.expectations import REQUIRED
 
-HEAD = OF_PAGE + """<meta charset="utf-8">
+HEAD = """<!DOCTYPE html>
+<html lang="en">
+<head>
+<meta charset="utf-8">
 <meta name="viewport" content="width=device-width">
 <meta http-equiv="Content-Security-Policy" content="default-src 'none'; style-src 'unsafe-inline'">
 <title>%s</title>
@@ -32,6 +35,11 @@ pre { margin: 2px 0 0; font: 12.5px/1.4 ui-monospace, "DejaVu Sans Mono", monosp
 OF_REQUIRED = ' If a required expectation doesn\'t hold, the grade is 0, whatever else holds.'
 
 
+def folder_of(path: Path) -> Path:
+    """The folder with the pages of runs to which a page of grades links."""
+    return path.with_name(path.stem + '_runs')
+
+
 def _colour(marks: Marks, count: int) -> str:
     return '' if not marks.has_mark else 'all' if marks.held == count and count else 'some' if marks.held else 'none'
 
@@ -42,11 +50,10 @@ def _first_failed(marks: Marks, folder: str) -> str:
     place = marks.first_failed
     if marks.why or place is None:
         return escape(marks.why) + _lines(marks.fix)
-    below = [*marks.warned, *(it for it in (marks.shown_halts, marks.unused, marks.no_page) if it)]
     other = marks.pictured if marks.pictured is not None and marks.pictured > place else None
     first = _failed(marks, place, '' if other is not None else folder)
     rest = '' if other is None else '\n' + _failed(marks, other, folder)
-    return first + rest + _lines(below)
+    return first + rest + _lines([marks.no_page] if marks.no_page else [])
 
 
 def _failed(marks: Marks, place: int, folder: str) -> str:

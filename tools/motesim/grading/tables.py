@@ -9,17 +9,14 @@ from collections.abc import Sequence
 
 from motesim.cells import aligned
 from motesim.grading.marks import Mark, Marks
-from motesim.grading.own import COLUMNS
 from motesim.judge.expectations import REQUIRED
 
+COLUMNS = ('scenario', 'holds', 'of', 'error')
 # How many nets a line names.
 MOST_NAMED = 3
 # Some spreadsheets treat a cell with this beginning as a formula.
 OF_FORMULA = ('=', '+', '-', '@', '\t', '\r', '|', '%')
 RENAMED = 'Hint: expectations use the names of the task: if a process was renamed, rename it back, and grade again'
-UNUSED = ('Hint: in a net of --net or --hidden the motes run only one program of a solution. Move the code of the '
-          'other motes into this program, below tests such as `if (self == 0)`, and grade again')
-USED_UP = '%s: it used up its work there, maybe in a loop without a wait'
 SHARED = 'in all solutions and nets, this or a similar remark: %s'
 
 
@@ -44,8 +41,7 @@ def table(marked: Sequence[Marks], sentences: Sequence[str]) -> list[str]:
     for it in marked:
         broken = ', '.join('%d%s' % (number, REQUIRED * one.is_required) for number, one in enumerate(it.marks, 1)
                            if not one.holds)
-        parts = broken and 'broken: %s' % broken, it.fault, it.halts, broken and it.unused
-        words = it.fault if it.why else '; '.join(filter(None, parts))
+        words = it.fault if it.why else '; '.join(filter(None, (broken and 'broken: %s' % broken, it.fault)))
         rows.append((it.short_name, count_of(it, len(sentences)), words))
     return list(aligned(rows, range(3), '  '))
 
@@ -113,9 +109,6 @@ def why(marks: Marks) -> list[str]:
     lines = [*([marks.why] if marks.why else []), *marks.fix]
     # (without a report no sentence holds, all for the same reason)
     lines += [row for it in marks.marks if not marks.why for row in rows_of(it)]
-    lines += [USED_UP % marks.halts] if marks.halts else []
-    if marks.first_failed is not None:
-        lines += [*marks.warned, *([marks.unused, UNUSED] if marks.unused else [])]
     return [*lines, *([RENAMED] * any(marks.lacks))]
 
 

@@ -4,7 +4,7 @@ from __future__ import annotations
 from collections.abc import Iterator, Sequence
 from itertools import compress, repeat
 from itertools import count as counting
-from operator import and_, attrgetter
+from operator import attrgetter
 from typing import NamedTuple
 
 from motesim.judge.claim_words import Counted, Deed, OfNet
@@ -60,26 +60,15 @@ class Finder:
         found = zip(map((mote + 2).__add__, trace.rows(mote, kind)), trace.lines(mote, kinds=(kind,)))
         return map(tuple.__new__, repeat(Event), found)
 
-    def fits(self, pattern: Pattern, mote: int) -> bytes:
-        """For each line of the pattern's kind in a mote's trace, 1 if it matches the pattern, otherwise 0."""
-        trace, kind = self.report.trace, str(pattern[0])
-        place, fields = trace.place(mote, kind), trace.of[kind]
-        # (a value may be unknown for this mote, whether or not it has such lines)
-        wanted = [self.links.values(it, mote) if isinstance(it, Value) else it for it in pattern[1:]]
-        count: int = place.stop - place.start
-        if not (wanted and count):
-            return b'\1' * count
-        found = bytes([len(wanted) <= len(fields)]) * count
-        for its, (field, column) in zip(wanted, fields.items()):
-            if its is not None and any(found):
-                allowed = trace.numbers_of(field, [its]) if isinstance(its, str) else its
-                found = bytes(map(and_, found, map(allowed.__contains__, column[place])))
-        return found
-
     def matches(self, pattern: Pattern, mote: int) -> Iterator[Event]:
-        """The lines of a mote that have this pattern."""
-        found = self.fits(pattern, mote)
-        return compress(self.events(mote, str(pattern[0])), found) if any(found) else iter(())
+        """The lines of a mote that have this pattern. (A value may be unknown for this mote, whether or not it has such
+        lines.)"""
+        wanted = [self.links.values(it, mote) if isinstance(it, Value) else it for it in pattern[1:]]
+        for event in self.events(mote, str(pattern[0])):
+            fields = event.line[2:-1]
+            if len(wanted) <= len(fields) and all(it is None or (str(field) == it if isinstance(it, str) else field in it)
+                                                  for it, field in zip(wanted, fields)):
+                yield event
 
     def done(self, patterns: Sequence[Pattern], motes: Sequence[int]) -> list[Event]:
         """The lines of these motes that have one of these patterns, in the order of moment, then mote."""

@@ -1,12 +1,9 @@
 """The meaning of sentences about a report: docs/use/EXPECTATIONS.md."""
 from __future__ import annotations
 
-import operator
 from dataclasses import dataclass, field
 
-COMPARES = {
-    'at least': operator.ge, 'at most': operator.le, 'exactly': operator.eq, 'more than': operator.gt,
-}
+COMPARES = 'at least', 'at most', 'exactly', 'more than'
 
 
 @dataclass(frozen=True)
@@ -14,10 +11,6 @@ class Count:
     """A condition on a count: a comparison and a number."""
     compare: str
     number: int
-
-    def admits(self, found: int) -> bool:
-        """Returns whether a count satisfies the condition."""
-        return bool(COMPARES[self.compare](found, self.number))
 
     @property
     def least(self) -> int:

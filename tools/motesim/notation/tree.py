@@ -5,11 +5,12 @@ change; a smaller or another tree may have tokens without a place, made by `word
 """
 from __future__ import annotations
 
-from collections.abc import Iterator
+from collections.abc import Iterator, Mapping
 from typing import NamedTuple, TypeAlias
 
 from motesim.notation.faults import ProgramError
 from motesim.notation.grammar import STATEMENTS
+from motesim.notation.operators import calculated
 from motesim.notation.tokens import Token
 
 NOWHERE = Token('')
@@ -226,3 +227,16 @@ def last_of(it: Expression) -> Token:
     while isinstance(it, Not):
         it = it.inner
     return it.token if isinstance(it, Value) else it.last
+
+
+def constant_of(it: Expression | None, known: Mapping[str, int] = {}) -> int | None:
+    """The value of an expression that has only numbers and these variables; None for another one."""
+    if isinstance(it, Value):
+        return int(it.token.text) if it.is_number else known.get(it.token.text)
+    if isinstance(it, Not):
+        inner = constant_of(it.inner, known)
+        return None if inner is None else int(not inner)
+    if not isinstance(it, Operation):
+        return None
+    left, right = constant_of(it.left, known), constant_of(it.right, known)
+    return None if left is None or right is None else calculated(it.token.text, left, right)

@@ -13,15 +13,14 @@ TOP = {'end': needed(int, 0, 1_000_000), 'medium': needed(dict),
        'plot': any_kind('an array of tables', False)}
 MEDIUM = {'range': needed(int, 0, 100_000), 'base': needed(int, 1, 1_000_000), 'per': needed(int, 1, 1_000_000),
           'collide': optional(bool, False)}
-AREA = {'width': needed(int, 0, 60_000), 'height': needed(int, 0, 60_000), 'seed': needed(int, 0, MOST_SEED),
-        'least': optional(int, 0, 0, 60_000), 'connected': optional(bool, False)}
 COUNT, STEP = needed(int, 1, MOST_MOTES), needed(int, 0, 60_000)
 PLACES: dict[str, dict[str, Key]] = {
     'grid': {'columns': COUNT, 'rows': COUNT, 'step': STEP},
     'line': {'count': COUNT, 'step': STEP},
     'ring': {'count': COUNT, 'radius': STEP},
-    'random': {'count': COUNT, **AREA},
-    'clusters': {'count': COUNT, 'motes': COUNT, 'spread': STEP, **AREA},
+    'random': {'count': COUNT, 'width': needed(int, 0, 60_000), 'height': needed(int, 0, 60_000),
+               'seed': needed(int, 0, MOST_SEED), 'least': optional(int, 0, 0, 60_000),
+               'connected': optional(bool, False)},
     'list': {'at': needed(list, 1, MOST_MOTES)},
     'csv': {'file': needed(str)},
 }

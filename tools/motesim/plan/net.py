@@ -191,9 +191,10 @@ class Builder:
         return motes
 
     def points(self, values: Mapping[str, Any], path: Path, reach: int | None, names: list[str]) -> list[Point]:
-        """The places of a group. If they name programs themselves, these are added to `names`."""
+        """The places of a group. If they name programs themselves, these are added to `names`. Counts the nets that
+        were rejected."""
         rule, most = values['rule'], MOST_MOTES
-        count = values.get('columns', 1) * values.get('rows', 1) * values.get('count', 1) * values.get('motes', 1)
+        count = values.get('columns', 1) * values.get('rows', 1) * values.get('count', 1)
         if count > most:
             raise self.tables.fault(path, 'This group has %s motes.' % '{:,}'.format(count), 'at most 1,000', False)
         if rule == 'grid':
@@ -206,16 +207,8 @@ class Builder:
             return self.listed(values['at'], path + ('at',))
         if rule == 'csv':
             return self.places_of_csv(values, path, names)
-        return self.drawn(values, reach)
-
-    def drawn(self, values: Mapping[str, Any], reach: int | None) -> list[Point]:
-        """The places of a group that is drawn. Counts the nets that were rejected."""
-        stream = self.stream_of('places', 0)
-        area = values['width'], values['height'], values['seed'], values['least'], reach, stream
-        if values['rule'] == 'random':
-            found = places.scattered(values['count'], *area)
-        else:
-            found = places.clusters(values['count'], values['motes'], values['spread'], *area)
+        found = places.scattered(values['count'], values['width'], values['height'], values['seed'], values['least'],
+                                 reach, self.stream_of('places', 0))
         self.rejected += found.rejected
         return found.points
 

@@ -11,6 +11,14 @@ MOST_RUNS = 100_000
 RANGE = re.compile(r'(-?[0-9]{1,9})\.\.(-?[0-9]{1,9})(?:\.\.([0-9]{1,9}))?')
 
 
+def named(words: str) -> tuple[str, str]:
+    """The name and the values of a parameter, as `--param` has them: `period=10,20`."""
+    name, sign, values = words.partition('=')
+    if not sign or not name:
+        raise Fault('--param needs NAME=VALUES, not %r' % words)
+    return name, values
+
+
 def values_of(words: str) -> list[Value]:
     """The values of a parameter: `10,20,40`, `1..30`, `0..100..25`, or texts."""
     found: list[Value] = []

@@ -3,7 +3,6 @@ from __future__ import annotations
 
 import argparse
 import sys
-from collections.abc import Sequence
 from pathlib import Path
 
 from motesim.scenario.encodings import read_file
@@ -14,19 +13,9 @@ from motesim.output import made_beside
 from motesim.plan.from_scenario import write_plan
 from motesim.plan.plan import UNUSED, Plan
 from motesim.plan.tables import Value, value_of_text
+from motesim.plan.values import named
 from motesim.scenario import Scenario
 from motesim.scenario.refused import check
-
-
-def given_of(words: Sequence[str]) -> dict[str, Value]:
-    """The parameters from arguments such as `period=20`."""
-    given: dict[str, Value] = {}
-    for word in words:
-        name, sign, value = word.partition('=')
-        if not sign or not name:
-            raise Fault('--param needs NAME=VALUE, not %r' % word)
-        given[name] = value_of_text(value)
-    return given
 
 
 def checked(text: str) -> str:
@@ -62,7 +51,8 @@ def status_of(asked: argparse.Namespace) -> int:
     """The work of tools/scenario; returns the status."""
     if asked.source:
         return write_from(asked.source, asked.output)
-    plan, given = Plan.read(asked.plan), given_of(asked.param)
+    plan = Plan.read(asked.plan)
+    given = {name: value_of_text(value) for name, value in map(named, asked.param)}
     text = checked(plan.scenario(given))
     for name in unused(plan, given):
         print('scenario: warning: ' + UNUSED % (name, name), file=sys.stderr)

@@ -4,8 +4,8 @@ from __future__ import annotations
 from collections.abc import Sequence
 from typing import NamedTuple
 
-from motesim.replay.mote import Reached, Replay
-from motesim.replay.translate import Program
+from motesim.replay.mote import DetailedReplay, Reached
+from motesim.replay.program import Program
 
 # Advice for a loop in which nothing waits.
 LETS_WAIT = ('if the loop waits for something, write a `yield_until` in it; if it calculates, write a `pause` in it, '
@@ -23,14 +23,14 @@ class Endless(NamedTuple):
     waits: tuple[int, ...]
 
 
-class LastRun(Replay):
+class LastRun(DetailedReplay):
     """A replay that keeps only the statements of the last run of the kernel.
 
     open  for each call that hasn't ended, the outer ones first: its process, and the number of statements before it
     """
 
-    def __init__(self, program: Program, mote: int, queue: int, trace: list[str]):
-        super().__init__(program, mote, queue, trace)
+    def begin_life(self, at: int, line: int) -> None:
+        super().begin_life(at, line)
         self.open: list[tuple[int, int]] = []
 
     def kernel_run(self) -> int:
@@ -44,15 +44,17 @@ class LastRun(Replay):
         self.open.pop()
 
 
-def endless(replay: LastRun) -> Endless | None:
-    """The loop that used up the work; None if the mote didn't halt, or if no loop did."""
+def endless(program: Program, mote: int, queue: int, trace: list[str], end: int) -> Endless | None:
+    """The loop that used up the work of a mote, by its trace up to a moment; None if the mote didn't halt, or if no loop
+    did."""
+    replay = LastRun(program, mote, queue, trace)
+    replay.to_end(end)
     if not replay.is_halted:
         return None
-    program = replay.program
     for process, begin in replay.open:
         own = [it for it in replay.reached[begin:] if (
             program.statement(it.statement).process == process or
-            process < 0 and program.statement(it.statement).inside.startswith('callback'))]
+            process < 0 and program.statement(it.statement).part == 'ctimer')]
         found = _loop(program, own)
         if found:
             return found

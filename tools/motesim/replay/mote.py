@@ -3,15 +3,18 @@
 The replay reads the mote's arrivals from its trace; everything else follows from its program. Each line that the
 replay writes has to be the next line of the trace, so its notes are about exactly this run. If the trace continues
 differently, the replay raises a `Parted`: then it isn't the trace of this program.
+
+A protothread is a generator, which yields when it waits.
 """
 from __future__ import annotations
 
-from collections.abc import Generator
+from collections.abc import Container, Iterator
+from contextlib import suppress
 from dataclasses import dataclass
 from typing import NamedTuple, NoReturn
 
 from motesim.faults import Fault
-from motesim.replay.translate import Process, Program
+from motesim.replay.program import Block, Program, Statement
 
 UNITS, RUNS, RING, QUEUE = 10_000, 64, 8, 32
 # The latest start that `reset` gives a timer of motesim.
@@ -29,8 +32,20 @@ class Halted(Exception):
     """The mote halts."""
 
 
+class Off(Exception):
+    """The mote is off until it boots again."""
+
+
 class Stopped(Exception):
     """The mote has written the wanted number of lines."""
+
+
+class Exit(Exception):
+    """A protothread ends."""
+
+
+class Restart(Exception):
+    """A protothread begins again at its first statement."""
 
 
 class Frame(NamedTuple):
@@ -58,6 +73,7 @@ class Link(NamedTuple):
     """The cause of a line.
 
     how    boot      the mote boots
+           boots     the mote boots again, after a fault
            call      its process wrote it in a call (`frame`)
            posted    the line `line` posted the event
            timer     a timer was due, which was set in a call (`frame`) at the moment `since`, for `interval` moments
@@ -72,56 +88,27 @@ class Link(NamedTuple):
     row: int = 0
     since: int = 0
     interval: int = 0
-    statement: str = ''
 
 
 class Change(NamedTuple):
-    """A variable got a value after this many lines of the trace."""
+    """A variable of a process got a value after this many lines of the trace."""
     lines: int
     at: int
     process: int
-    variable: int
+    variable: str
     value: int
-    row: int
-
-
-class IdleEvent(NamedTuple):
-    """An event of a callback timer that ran no block.
-
-    timer    its number
-    at       the moment at which ctimer took the event
-    line     the line of the trace that shows this
-    ran      the moment at which an older event ran the block after the timer was set
-    stopped  the moment at which the timer was stopped after it was set; -1 if it wasn't
-    row      the statement that set the timer last, by its number from 1
-    """
-    timer: int
-    at: int
-    line: int
-    ran: int
-    stopped: int
-    row: int
 
 
 class Called(NamedTuple):
-    """A call of a process began, or ended, after this many lines of the trace.
-
-    waits   at the end: the numbers of the statements at which it waits, from its body into its threads; none if it has
-            ended, or if it is a process of the system
-    place   the number of statements and conditions in `Replay.reached` before it
-    """
-    lines: int
+    """A call of a process began, or ended: then `waits` has the numbers of the statements at which it waits, from its
+    body into its threads; none if it has ended."""
+    process: int
     at: int
-    frame: Frame
-    is_end: bool
-    waits: tuple[int, ...] = ()
-    place: int = 0
+    waits: tuple[int, ...] | None = None
 
 
 class Reached(NamedTuple):
-    """A statement was reached after this many lines of the trace; or its condition was tested, with the result
-    `holds`."""
-    lines: int
+    """A statement was reached at a moment; or its condition was tested, with the result `holds`."""
     at: int
     statement: int
     holds: bool | None = None
@@ -136,10 +123,6 @@ class Timer:
     frame: Frame | None = None
     row: int = 0
     since: int = 0
-    statement: str = ''
-    # For a callback timer: the last moment at which its block ran, or at which it was stopped.
-    ran: int = -1
-    stopped: int = -1
 
     @property
     def due(self) -> int:
@@ -158,31 +141,38 @@ class Event(NamedTuple):
 
 # The kinds of lines that have more text after the kind which the replay reads.
 ARRIVALS = {'recv', 'lost', 'collide'}
-Body = Generator[None, tuple[str, int, int], tuple[str, int, int]]
+Body = Iterator[None]
 
 
 class Replay:
     """A mote that runs again. `links` has the cause of each line of its trace."""
 
     def __init__(self, program: Program, mote: int, queue: int, trace: list[str]):
-        self.program, self.mote, self.room, self.trace = program, mote, queue, trace
+        self.program, self.room, self.trace = program, queue, trace
+        self.mote: int = mote
         self.count = len(trace)
-        # (a fault may let the mote boot later)
-        self.begin = int(trace[0].partition(' ')[0]) if trace else 0
+        # (the lines with which further lives begin)
+        self.boots = [place for place, line in enumerate(trace) if line.endswith(' boots')]
         self.lines = 0
         # (the number of wanted lines, or None to run to the end)
         self.last = -1
         self.links: list[Link] = []
         self.changes: list[Change] = []
         self.calls: list[Called] = []
-        self.idle_events: list[IdleEvent] = []
-        self.reached: list[Reached] = []
-        self.now = self.clock = self.units = 0
-        self.variables = [list(it.first) for it in program.processes]
-        self.counts = list(program.first_counts)
+        self.now: int = 0
+        self.sent = 0
+        # (a fault may let the mote boot later)
+        self.begin_life(int(trace[0].partition(' ')[0]) if trace else 0, BOOT)
+
+    def begin_life(self, at: int, line: int) -> None:
+        """The mote boots at a moment; the line is the cause of its first lines."""
+        program = self.program
+        self.begin, self.boot_line, self.units = at, line, 0
+        self.variables: list[dict[str, int]] = [dict(it.variables) for it in program.processes]
+        self.counts: list[int] = [*program.semaphores.values()]
         self.list: list[int] = []
         own = len(program.processes)
-        self.state = {number: 0 for number in range(-3, own)}
+        self.state: dict[int, int] = {number: 0 for number in range(-3, own)}
         self.is_busy = dict.fromkeys(self.state, False)
         # (for each process with a pending poll, the call that polled it first, and the line of the program)
         self.needs_poll: dict[int, tuple[Frame | None, int]] = {}
@@ -190,18 +180,19 @@ class Replay:
         self.born = dict.fromkeys(self.state, 0)
         self.bodies: dict[int, Body] = {}
         self.waits = [0] * own
-        self.spawned: list[list[tuple[str, int]]] = [[] for _ in range(own)]
+        # (the statements by which the threads of a process were spawned, from its body on)
+        self.spawned: list[list[int]] = [[] for _ in range(own)]
         self.current = 0
         self.events: list[Event] = []
         # (the event that is taken next; its place in the queue is already free)
         self.taken: Event | None = None
-        self.serial = self.sent = 0
+        self.serial = 0
         self.ring: list[tuple[int, int, int]] = []
-        self.timers = [Timer() for _ in program.timers]
+        self.timers: list[Timer] = [Timer() for _ in program.timers]
         self.timer_list: list[int] = []
         self.callbacks: set[int] = set()
         self.frame: Frame | None = None
-        self.boot_frame = Frame(0, 'boot', 0, 0, 'boot', BOOT)
+        self.boot_frame = Frame(0, 'boot', 0, 0, 'boot', line)
         self.is_halted = False
 
     # Lines
@@ -217,6 +208,8 @@ class Replay:
         if at == self.last:
             raise Stopped
         if at >= self.count or self.trace[at] != '%d %s' % (self.now, words):
+            if at in self.boots:
+                raise Off
             self.part('%d %s' % (self.now, words))
         self.links.append(link)
         self.lines = at + 1
@@ -231,7 +224,7 @@ class Replay:
     def of_call(self, row: int) -> Link:
         """The cause of a line that is written in a call."""
         frame = self.frame
-        return Link('call', frame.line, frame, row) if frame else Link('boot', BOOT)
+        return Link('call', frame.line, frame, row) if frame else Link('boot', self.boot_line)
 
     # Work
 
@@ -262,22 +255,19 @@ class Replay:
 
     # Processes
 
+    @property
+    def called(self) -> Frame:
+        """The call that runs now."""
+        assert self.frame
+        return self.frame
+
     def run(self, process: int, frame: Frame) -> bool:
         """Runs a process with an event. Returns whether it has ended."""
-        event, word, sender = frame.event, frame.word, frame.sender
         if process < 0:
-            self.run_system(process, event, word, frame)
+            self.run_system(process, frame)
             return False
-        own: Process = self.program.processes[process]
-        if event == 'poll' and own.onpoll:
-            own.onpoll(self, event, word, sender)
-        if event == 'exit' and own.onexit:
-            own.onexit(self, event, word, sender)
-        try:
-            self.bodies[process].send((event, word, sender))
-            return False
-        except StopIteration:
-            return True
+        self.run_block(self.program.processes[process].blocks.get('on' + frame.event, []))
+        return next(self.bodies[process], True) is True
 
     def call(self, process: int, event: str, word: int, sender: int, how: str, row: int, line: int | None = None
              ) -> None:
@@ -287,30 +277,22 @@ class Replay:
             return
         before, current = self.frame, self.current
         if line is None:
-            line = before.line if before else BOOT
+            line = before.line if before else self.boot_line
         self.frame = frame = Frame(process, event, word, sender, how, line, before, row)
         self.unit()
         self.state[process], self.current, self.is_busy[process] = 2, process, True
-        self.calls.append(Called(self.lines, self.now, frame, False, (), len(self.reached)))
+        self.calls.append(Called(process, self.now))
         if self.run(process, frame) or event == 'exit':
             self.exit(process, process, 0)
         else:
             self.state[process] = 1
         self.is_busy[process] = False
-        self.calls.append(Called(self.lines, self.now, frame, True, self.waiting_at(process), len(self.reached)))
+        self.calls.append(Called(process, self.now, self.waiting_at(process)))
         self.frame, self.current = before, current
-
-    def calls_of(self, process: int, end: int) -> list[Called]:
-        """The begins and ends of a process's calls up to a moment, without its callbacks. If the last one is a begin,
-        the mote halted during this call."""
-        return [it for it in self.calls if it.frame.process == process and it.at <= end
-                and it.frame.how != 'callback']
 
     def waiting_at(self, process: int) -> tuple[int, ...]:
         """The statements at which a protothread waits."""
-        if process < 0 or not self.state[process]:
-            return ()
-        return (*(statement for _, statement in self.spawned[process]), self.waits[process])
+        return () if process < 0 or not self.state[process] else (*self.spawned[process], self.waits[process])
 
     def walk(self) -> list[tuple[int, int]]:
         """The processes that are on the list now, each with its incarnation."""
@@ -328,12 +310,12 @@ class Replay:
         if process != by:
             self.unit()
             before, current = self.frame, self.current
-            line = before.line if before else BOOT
+            line = before.line if before else self.boot_line
             self.frame = frame = Frame(process, 'exit', 0, 0, 'exit', line, before, row)
             self.current = process
-            self.calls.append(Called(self.lines, self.now, frame, False))
+            self.calls.append(Called(process, self.now))
             self.run(process, frame)
-            self.calls.append(Called(self.lines, self.now, frame, True))
+            self.calls.append(Called(process, self.now, ()))
             self.frame, self.current = before, current
         self.write('leave %s' % self.name(process), self.of_call(row))
         self.list.remove(process)
@@ -349,10 +331,7 @@ class Replay:
             if process >= 0:
                 self.spawned[process] = []
                 self.waits[process] = 0
-                body = self.program.processes[process].body
-                assert body
-                self.bodies[process] = body(self)
-                next(self.bodies[process])
+                self.bodies[process] = self.protothread(self.program.processes[process].blocks['body'])
             self.call(process, 'init', 0, 0, 'init', row, line)
 
     def kill(self, process: int, row: int) -> None:
@@ -362,9 +341,6 @@ class Replay:
             self.is_busy[process] = True
             self.exit(process, self.current, row)
             self.is_busy[process] = False
-
-    def poll(self, process: int, row: int) -> None:
-        self.ask_poll(process, self.frame, row)
 
     def ask_poll(self, process: int, by: Frame | None, row: int = 0) -> None:
         if self.state[process]:
@@ -388,22 +364,123 @@ class Replay:
 
     # Statements
 
-    def note(self, process: int, variable: int, value: int, row: int) -> None:
-        self.changes.append(Change(self.lines, self.now, process, variable, value, row))
+    def reach(self, it: Statement) -> None:
+        """A statement is reached."""
 
-    def reach(self, statement: int) -> None:
-        self.reached.append(Reached(self.lines, self.now, statement))
+    def test(self, it: Statement, value: int) -> bool:
+        """Returns whether the condition of a statement is true, by its value."""
+        return value != 0
 
-    def test(self, statement: int, value: int) -> int:
-        self.reached.append(Reached(self.lines, self.now, statement, value != 0))
-        return value
+    def protothread(self, block: Block) -> Body:
+        """A body or a thread."""
+        while True:
+            try:
+                yield from self.block(block)
+                return
+            except Exit:
+                return
+            except Restart:
+                pass
 
-    def write_print(self, process: int, value: int, row: int) -> None:
-        self.write('print %s %d' % (self.program.processes[process].name, value), self.of_call(row))
+    def run_block(self, block: Block) -> None:
+        """Runs a block in which no statement waits."""
+        for _ in self.block(block):
+            raise AssertionError('a statement waits')
 
-    def send(self, value: int, row: int) -> None:
-        self.write('send %d %d' % (self.sent, value), self.of_call(row))
-        self.sent += 1
+    def block(self, block: Block) -> Body:
+        for it in block:
+            self.unit()
+            self.reach(it)
+            if it.its.has_blocks:
+                yield from self.branch(it)
+            elif it.its.waits:
+                yield from self.waiting(it)
+            else:
+                self.do(it)
+
+    def branch(self, it: Statement) -> Body:
+        while self.test(it, it.value(self)):
+            yield from self.block(it.block)
+            if it.kind == 'if':
+                return
+            self.unit()
+        yield from self.block(it.otherwise)
+
+    def waiting(self, it: Statement) -> Body:
+        """A statement that may wait."""
+        match it.kind:
+            case 'yield':
+                yield from self.wait(it)
+            case 'yield_until':
+                yield from self.wait(it)
+                while not self.test(it, it.value(self)):
+                    yield from self.wait(it)
+            case 'wait_until':
+                while not self.test(it, it.value(self)):
+                    yield from self.wait(it)
+            case 'wait_while':
+                while not self.test(it, not it.value(self)):
+                    yield from self.wait(it)
+            case 'pause':
+                self.post(it.process, 'continue', 0, it.number)
+                yield from self.wait(it)
+                while not self.test(it, self.called.event == 'continue'):
+                    yield from self.wait(it)
+            case 'acquire':
+                while not self.test(it, self.counts[it.target]):
+                    yield from self.wait(it)
+                self.counts[it.target] -= 1
+            case 'spawn':
+                self.spawned[it.process].append(it.number)
+                yield from self.protothread(self.program.processes[it.process].threads[it.its.name])
+                self.spawned[it.process].pop()
+            case 'exit':
+                raise Exit
+            case 'restart':
+                self.waits[it.process] = it.number
+                yield
+                self.begin_again(it.process)
+                raise Restart
+
+    def wait(self, it: Statement) -> Body:
+        """Waits for the next call."""
+        self.waits[it.process] = it.number
+        yield
+        self.resume(it.process)
+
+    def do(self, it: Statement) -> None:
+        """A statement that doesn't wait."""
+        value = it.value(self)
+        match it.kind:
+            case '=':
+                self.assign(it, it.its.name, value)
+            case 'print':
+                self.write('print %s %d' % (self.name(it.process), value), self.of_call(it.number))
+            case 'send':
+                self.write('send %d %d' % (self.sent, value), self.of_call(it.number))
+                self.sent += 1
+            case 'signal':
+                self.counts[it.target] = self.counts[it.target] + 1 & 65535
+            case 'post' | 'broadcast':
+                result = self.post(it.target if it.kind == 'post' else None, it.its.event, value, it.number)
+                if it.its.into:
+                    self.assign(it, it.its.into, result)
+            case 'synch':
+                self.call(it.target, it.its.event, value, 0, 'synch', it.number)
+            case 'poll':
+                self.ask_poll(it.target, self.frame, it.number)
+            case 'start':
+                self.start(it.target, it.number)
+            case 'kill':
+                self.kill(it.target, it.number)
+            case 'stop':
+                self.stop(it.target)
+            case _:
+                self.set(it.target, it.kind, value, it.number)
+
+    def assign(self, it: Statement, variable: str, value: int) -> None:
+        self.variables[it.process][variable] = value
+        self.changes.append(Change(self.lines, self.now, it.process, variable, value))
 
     # Timers
 
@@ -417,7 +494,7 @@ class Replay:
         if statement == 'set':
             timer.interval = interval
         timer.owner = CTIMER if is_callback else self.current
-        timer.frame, timer.row, timer.since, timer.statement = self.frame, row, self.now, statement
+        timer.frame, timer.row, timer.since = self.frame, row, self.now
         if number not in self.timer_list:
             self.timer_list.insert(0, number)
         if is_callback:
@@ -428,13 +505,12 @@ class Replay:
         self.timers[number].owner = None
         if number in self.timer_list:
             self.timer_list.remove(number)
-        if number in self.callbacks:
-            self.callbacks.remove(number)
-            self.timers[number].stopped = self.now
+        self.callbacks.discard(number)
 
     # The processes of the system
 
-    def run_system(self, process: int, event: str, word: int, frame: Frame) -> None:
+    def run_system(self, process: int, frame: Frame) -> None:
+        event, word = frame.event, frame.word
         if process == ETIMER and event == 'poll':
             self.offer_timers()
         elif process == ETIMER and event == 'exited':
@@ -453,7 +529,7 @@ class Replay:
                 place += 1
                 continue
             frame = timer.frame or self.boot_frame
-            link = Link('timer', frame.line, frame, timer.row, timer.since, timer.due - timer.since, timer.statement)
+            link = Link('timer', frame.line, frame, timer.row, timer.since, timer.due - timer.since)
             if self.queue(timer.owner, 'timer', number, 0, link):
                 self.ask_poll(ETIMER, None)
                 place += 1
@@ -464,22 +540,14 @@ class Replay:
 
     def call_back(self, number: int, frame: Frame) -> None:
         """ctimer runs the block of a callback timer in the name of the timer's process."""
-        if number >= len(self.timers):
-            return
-        timer = self.timers[number]
         if number not in self.callbacks:
-            self.idle_events.append(IdleEvent(number, self.now, frame.line, timer.ran, timer.stopped, timer.row))
             return
         self.callbacks.remove(number)
-        timer.ran, timer.stopped = self.now, -1
         its = self.program.timers[number]
-        assert its.callback
         before, current = self.frame, self.current
-        self.frame = called = Frame(its.process, 'timer', number, 0, 'callback', frame.line, frame)
+        self.frame = Frame(its.process, 'timer', number, 0, 'callback', frame.line, frame)
         self.current = its.process
-        self.calls.append(Called(self.lines, self.now, called, False))
-        its.callback(self, 'timer', number, 0)
-        self.calls.append(Called(self.lines, self.now, called, True))
+        self.run_block(its.callback or [])
         self.frame, self.current = before, current
 
     def hand_on(self) -> None:
@@ -501,12 +569,12 @@ class Replay:
         for process in (ETIMER, CTIMER, RADIO, *self.program.autostart):
             self.start(process, 0)
 
-    def arrivals(self) -> None:
-        """Delivers the packets that arrive at this moment, according to the trace."""
+    def arrivals(self, kinds: Container[str]) -> None:
+        """Delivers the packets that arrive at this moment with lines of these kinds, according to the trace."""
         head = '%d ' % self.now
         while self.lines < self.count and self.trace[self.lines].startswith(head):
             words = self.trace[self.lines].split(' ')
-            if words[1] not in ARRIVALS:
+            if words[1] not in kinds:
                 break
             at = self.write(' '.join(words[1:]), Link('medium', BOOT))
             if words[1] == 'recv':
@@ -568,10 +636,12 @@ class Replay:
         return None if due is None else max(due, self.now + 1)
 
     def turn(self, at: int) -> None:
-        self.now, self.clock = at, at & 65535
+        self.now = at
         if at == self.begin:
+            # (what collides is lost before a mote boots)
+            self.arrivals({'collide'})
             self.boot()
-        self.arrivals()
+        self.arrivals(ARRIVALS)
         due = self.next_due()
         if due is not None and due <= at:
             self.ask_poll(ETIMER, None)
@@ -586,13 +656,12 @@ class Replay:
         at, kind, *_ = self.trace[self.lines].split(' ')
         return int(at) if kind in ARRIVALS else None
 
-    def to_end(self, end: int) -> Replay:
+    def to_end(self, end: int) -> None:
         """Runs the mote up to the last moment of the scenario, to the end of its trace."""
         self.up_to(end)
         if self.lines < self.count:
             raise Parted("the trace of mote %d isn't that of its program: it should end before its line %d, '%s'" % (
                 self.mote, self.lines + 1, self.trace[self.lines]))
-        return self
 
     def to_line(self, lines: int, end: int) -> Replay:
         """Runs the mote until it has written this many lines, or up to a moment."""
@@ -605,14 +674,47 @@ class Replay:
 
     def up_to(self, end: int) -> Replay:
         """Runs the mote up to the end of a moment."""
-        at: int | None = self.begin
         try:
-            while at is not None and at <= end:
-                self.turn(at)
-                moments = [it for it in (self.wakes(), self.arrives()) if it is not None]
-                at = min(moments, default=None)
-        except Halted:
-            pass
+            self.live(end)
+            while (boots := next((it for it in self.boots if it > self.boot_line), None)) is not None and (
+                    self.moment(boots) <= end):
+                self.boot_again(self.moment(boots))
+                self.live(end)
         except (ValueError, IndexError, KeyError, RecursionError) as fault:
             raise Parted('the trace of mote %d can\'t be replayed: %s' % (self.mote, fault)) from None
         return self
+
+    def moment(self, line: int) -> int:
+        """The moment of a line of the trace."""
+        return int(self.trace[line].partition(' ')[0])
+
+    def boot_again(self, at: int) -> None:
+        """The mote boots again: it has forgotten all but the number of its packets."""
+        self.now = at
+        self.begin_life(at, self.write('boots', Link('boots', BOOT)))
+        self.changes += (Change(self.lines, at, process, variable, value)
+                         for process, its in enumerate(self.variables) for variable, value in its.items())
+
+    def live(self, end: int) -> None:
+        """Runs the mote up to the end of a moment, or of its life."""
+        boots = [self.moment(it) for it in self.boots if it > self.boot_line][:1]
+        at: int | None = self.begin
+        with suppress(Halted, Off):
+            while at is not None and at <= end and [at] < (boots or [at + 1]):
+                self.turn(at)
+                at = min((it for it in (self.wakes(), self.arrives()) if it is not None), default=None)
+
+
+class DetailedReplay(Replay):
+    """A replay that notes each statement that is reached, and each condition that is tested."""
+
+    def __init__(self, program: Program, mote: int, queue: int, trace: list[str]):
+        super().__init__(program, mote, queue, trace)
+        self.reached: list[Reached] = []
+
+    def reach(self, it: Statement) -> None:
+        self.reached.append(Reached(self.now, it.number))
+
+    def test(self, it: Statement, value: int) -> bool:
+        self.reached.append(Reached(self.now, it.number, value != 0))
+        return value != 0

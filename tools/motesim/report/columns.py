@@ -97,12 +97,6 @@ class Trace:
         """All lines of a kind, by their indices."""
         return array('I', compress(range(len(self)), self.kind.translate(MASKS[CODES[kind]])))
 
-    def numbers_of(self, field: str, words: Iterable[str]) -> set[int]:
-        """The numbers of these words in the column of a field; words that the column can't have are left out."""
-        if field in ('process', 'event'):
-            return {self.names.index(word) for word in words if word in self.names}
-        return {int(word) for word in words if len(word) < 20 and word.isdecimal() and str(int(word)) == word}
-
     def _named(self, field: str, column: Iterable[int]) -> Iterable[Any]:
         """The names that a column's numbers mean, if its field has names."""
         return map(self.names.__getitem__, column) if field in ('process', 'event') else column
@@ -248,10 +242,6 @@ class Log(Made[Packet]):
 
     def __len__(self) -> int:
         return len(self.at)
-
-    def packets(self) -> tuple[array[int], ...]:
-        """The columns of the packets, without their copies."""
-        return self.at, self.sender, self.number, self.value
 
     def of_copies(self, column: Iterable[int]) -> Iterator[int]:
         """For each copy, the value of its packet in a column."""

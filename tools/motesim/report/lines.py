@@ -61,7 +61,7 @@ FIELDS = {
     'start': 'process', 'leave': 'process', 'post': 'serial process event word', 'full': 'process event word',
     'take': 'serial process', 'drop': 'serial process', 'print': 'process value', 'busy': 'process',
     'send': 'number value', 'recv': 'sender number value', 'lost': 'sender number', 'collide': 'sender number',
-    'deaf': 'sender number', 'halt': '',
+    'deaf': 'sender number', 'halt': '', 'boots': '',
 }
 FORMS: dict[str, type[Line]] = {kind: _form(kind, fields) for kind, fields in FIELDS.items()}
 

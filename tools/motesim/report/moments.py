@@ -14,12 +14,10 @@ from motesim.report import OUTCOMES, Report
 
 
 class Burst(NamedTuple):
-    """The first moment at which a mote sent several packets that collided, their number, and the number of such
-    moments."""
+    """The first moment at which a mote sent several packets that collided, and their number."""
     sender: int
     at: int
     packets: int
-    moments: int
 
 
 def _collided(report: Report) -> Counter[tuple[int, int, int]]:
@@ -40,8 +38,9 @@ def collided(report: Report) -> int:
 
 def bursts(report: Report) -> list[Burst]:
     """For each mote that sent packets at the same moment that collided with each other, the first such moment."""
-    moments: dict[int, dict[int, int]] = {}
+    found: dict[int, Burst] = {}
     for (sender, at, _), count in sorted(_collided(report).items()):
-        its = moments.setdefault(sender, {})
-        its[at] = max(count, its.get(at, 0))
-    return [Burst(sender, *next(iter(its.items())), len(its)) for sender, its in moments.items()]
+        its = found.setdefault(sender, Burst(sender, at, count))
+        if its.at == at:
+            found[sender] = its._replace(packets=max(count, its.packets))
+    return [*found.values()]

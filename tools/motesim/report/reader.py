@@ -152,7 +152,7 @@ class _Reader:
 
     def read_trace(self, mote: int) -> None:
         """Reads the lines up to the next mote or the medium."""
-        last, has_halted, halt = 0, False, CODES['halt']
+        last, has_halted, halt, boots = 0, False, CODES['halt'], CODES['boots']
         rows, forms, moments, add_moment, add_kind = (
             self.rows, self.forms, self.moments, self.trace.at.append, self.trace.kind.append)
         for at in range(self.at, len(rows)):
@@ -171,7 +171,7 @@ class _Reader:
                 self.fault(str(bad), at)
             if moment < last:
                 self.fault('a moment from %d on' % last, at)
-            if has_halted:
+            if has_halted and form.code != boots:
                 self.fault('nothing more of mote %d, which has halted' % mote, at)
             last, has_halted = moment, form.code == halt
             add_moment(moment)

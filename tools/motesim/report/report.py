@@ -7,8 +7,9 @@ has the line of the error. `Report.text()` returns the text that was read, byte 
 """
 from __future__ import annotations
 
+from array import array
 from bisect import bisect_right
-from collections.abc import Callable, Iterable, Iterator, Sequence
+from collections.abc import Iterable, Iterator, Sequence
 from functools import cached_property
 from itertools import compress, count, repeat
 from operator import add, mul
@@ -51,8 +52,6 @@ class Outcome(NamedTuple):
 
 OUTCOMES = ('received', 'lost', 'overflowed', 'collided', 'halted', 'left')
 _LOST, _HALTED, _LEFT = (OUTCOMES.index(it) for it in ('lost', 'halted', 'left'))
-# The number of motes for which the outcomes are found at a time.
-MOTES_AT_ONCE = 256
 # The kinds of lines of the copies that have one.
 BECAME = {'received': 'recv', 'overflowed': 'lost', 'collided': 'collide'}
 
@@ -138,29 +137,21 @@ class Report:
         A copy without a line was lost by the medium, arrived at a mote that had halted, or is one of the last `left`
         copies, which would arrive after the end.
         """
-        log, motes = self.log, len(self.motes)
-        packets = list(log.of_copies(list(_keys(log.sender, log.number, motes))))
-        groups = [range(first, min(first + MOTES_AT_ONCE, motes)) for first in range(0, motes, MOTES_AT_ONCE)]
-        by_mote = [iter(its) for group in groups for its in self._fates_at(packets, group)]
-        following: Callable[[Iterator[int]], int] = next
-        found = bytearray(map(following, map(by_mote.__getitem__, log.to)))
-        for index in compress(count(), map(LOST.__eq__, log.arrival)):
-            found[index] = _LOST
+        log = self.log
+        keys = list(log.of_copies(list(_keys(log.sender, log.number, len(self.motes)))))
+        copies = [array('I') for _ in self.motes]
+        for index, to in enumerate(log.to):
+            copies[to].append(index)
+        found = bytearray(len(keys))
+        for mote, its in enumerate(copies):
+            became = self._became(mote)
+            for index in its:
+                found[index] = _LOST if log.arrival[index] == LOST else became.get(keys[index], _LEFT)
         silent = list(compress(count(), map(_LEFT.__eq__, found)))
         silent.sort(key=lambda index: (log.arrival[index], index))
         for index in silent[:max(0, len(silent) - self.left)]:
             found[index] = _HALTED
         return found
-
-    def _fates_at(self, packets: list[int], motes: range) -> list[bytes]:
-        """The outcomes of the copies that arrived at each of these motes, from the mote's lines, in the order of the
-        log."""
-        coming: list[list[int]] = [[] for _ in motes]
-        wanted = bytes(map(motes.__contains__, range(len(self.motes))))
-        is_one = map(wanted.__getitem__, self.log.to)
-        for to, packet in compress(zip(self.log.to, packets), is_one):
-            coming[to - motes.start].append(packet)
-        return [bytes(map(self._became(mote).get, its, repeat(_LEFT))) for mote, its in zip(motes, coming)]
 
     def _became(self, mote: int) -> dict[int, int]:
         """The outcomes of the packets that arrived at a mote, from the mote's lines, by the keys of the packets."""

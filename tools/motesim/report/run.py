@@ -31,6 +31,7 @@ from motesim.runner.process import Answer as Answer, LimitMet, Limits, NoReport 
 from motesim.runner.programs import TOP as TOP, ProgramFault as ProgramFault, program_path as program_path
 from motesim.report import Report, ReportFault
 from motesim.scenario import Scenario
+from motesim.scenario.in_programs import ScenarioFile
 from motesim.scenario.refused import check
 
 # The beginning of a report; and that of a scenario: a comment, a table or a key.
@@ -48,22 +49,17 @@ OTHERS = {
 class Run(NamedTuple):
     """The input of a tool: a report, the scenario if it is known, and a name to show.
 
-    file  the file that has the programs, if it is known: its name, without folders, and its text
+    file  the file that has the programs, if it is known
     """
     name: str
     report: Report
     scenario: Scenario | None
-    file: tuple[str, str] | None = None
+    file: ScenarioFile | None = None
 
 
 def answer(scenario: bytes, *arguments: str, limits: Limits = Limits()) -> Answer:
     """The answer of `motesim` to a scenario on standard input, with these arguments on its command line."""
     return Runner(limits=limits).answer(scenario, *arguments)
-
-
-def run_program(scenario: bytes, *arguments: str, limits: Limits = Limits(), faults: Sequence[str] = ()) -> bytes:
-    """The report of a scenario, run with these faults. Raises a `NoReport` if the scenario is refused."""
-    return Runner(limits=limits, faults=faults).report(scenario, *arguments)
 
 
 def is_report(data: bytes) -> bool:
@@ -135,6 +131,6 @@ def run_of(name: str, data: bytes, runner: Runner) -> Run:
         raise
 
 
-def file_of(path: str | Path, data: bytes) -> tuple[str, str] | None:
-    """The name of a scenario's file, and its text; None for standard input."""
-    return None if str(path) == '-' else (Path(path).name, data.decode('utf-8', 'replace'))
+def file_of(path: str | Path, data: bytes) -> ScenarioFile | None:
+    """A scenario's file; None for standard input."""
+    return None if str(path) == '-' else ScenarioFile(Path(path).name, data.decode('utf-8', 'replace'))

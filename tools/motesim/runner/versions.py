@@ -42,12 +42,10 @@ def _digest(path: Path, size: int, changed: int) -> str:
     return sha256(path.read_bytes()).hexdigest()[:16]
 
 
-def version_line(may_be_proved: bool = True) -> str:
+def version_line() -> str:
     """Returns the line of `--version`: the version, and whether the binary that would run is proved."""
-    named = os.environ.get('MOTESIM') if may_be_proved else None
-    program = Path(named) if named else program_of_sources(may_be_proved)
-    if program is None and may_be_proved:
-        program = module_program()
+    named = os.environ.get('MOTESIM')
+    program = Path(named) if named else program_of_sources() or module_program()
     proofs = 'the proofs of %s are for %s' % (VERSION, KIT)
     if program is None:
         return 'motesim %s, not built yet (%s)' % (VERSION, proofs)

@@ -1,10 +1,10 @@
-"""The faults of a run, in the words of crates/fault_text. `motecheck` reads them, and decides what they mean; this
+"""The faults of a run, in the words of crates/radio_faults. `motecheck` reads them, and decides what they mean; this
 module only finds the numbers in them.
 
     link 1 to 2 is broken                                     packet 3 of mote 2 is lost
     mote 3 is silent                                          packet 3 of mote 2 is lost on the way to mote 5
     mote 4 is off from 40 on                                  packet 3 of mote 2 is 4 late on the way to mote 5
-    mote 4 is off from 0 to 40
+    mote 4 is off from 40 to 80                               mote 4 restarts at 40
 """
 from __future__ import annotations
 
@@ -15,6 +15,7 @@ from typing import NamedTuple
 
 from motesim.scenario.encodings import decoded, read_file
 
+FOR_GOOD = 'off for good'
 # The text of each kind, with a word in capitals for each number; these are the numbers of motes.
 TEXTS = {
     'link': 'link FROM to TO is broken',
@@ -22,13 +23,14 @@ TEXTS = {
     'lost to all': 'packet PACKET of mote FROM is lost',
     'lost': 'packet PACKET of mote FROM is lost on the way to mote TO',
     'late': 'packet PACKET of mote FROM is MOMENTS late on the way to mote TO',
-    'off for good': 'mote FROM is off from BEGIN on',
-    'off': 'mote FROM is off from 0 to END',
+    FOR_GOOD: 'mote FROM is off from BEGIN on',
+    'off': 'mote FROM is off from BEGIN to END',
+    'restart': 'mote FROM restarts at END',
 }
 MOTES = 'FROM', 'TO'
 NUMBER = re.compile('[A-Z]+')
 FORMS = {kind: re.compile(NUMBER.sub(r'(?P<\g<0>>[0-9]+)', text)) for kind, text in TEXTS.items()}
-LOSING, OFF = ('link', 'silent', 'lost to all', 'lost'), ('off for good', 'off')
+LOSING, OFF = ('link', 'silent', 'lost to all', 'lost'), (FOR_GOOD, 'off', 'restart')
 
 
 class NetFault(NamedTuple):

@@ -1,7 +1,7 @@
 """Reads scenarios: docs/use/SCENARIO.md describes them. Any other text raises a `ScenarioFault`."""
 from __future__ import annotations
 
-from collections.abc import Callable, Iterable, Iterator
+from collections.abc import Callable, Iterable
 from functools import cached_property
 from typing import TYPE_CHECKING, Any, NamedTuple
 
@@ -121,18 +121,6 @@ class Scenario:
         """The least number of hops from a mote to each mote that its packets can reach, itself included."""
         return hops_over(self.receivers, origin)
 
-    def links(self) -> Iterator[tuple[int, int]]:
-        """Each pair of motes that hear each other, the lesser number first."""
-        for s in range(self.motes):
-            for r in self._neighbours[s]:
-                if s < r:
-                    yield s, r
-
     def delay(self, s: int, r: int) -> int:
         """The number of moments that a packet of s needs to reach r, which hears s."""
         return self.base + self.squared(s, r) // self.per
-
-    def loses(self, s: int, r: int, number: int) -> bool:
-        """Returns whether the medium loses the packet of that number on its way from s to r."""
-        every = self.losses.get((s, r), 0)
-        return every > 0 and (number + 1) % every == 0

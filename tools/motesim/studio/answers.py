@@ -3,8 +3,11 @@ from __future__ import annotations
 
 import re
 from collections.abc import Sequence
-from typing import Any, NamedTuple
+from dataclasses import dataclass
+from functools import cached_property
+from typing import Any
 
+from motesim.causes.source import Source, source_of
 from motesim.explain.explanation import TEXT, correction_of, explanation, place_of_fault
 from motesim.explain.say import in_words
 from motesim.explain.warnings import warnings
@@ -17,28 +20,11 @@ from motesim.report.run import Run
 from motesim.scenario import Scenario
 from motesim.scenario.fields import Field
 from motesim.scenario.places import Place, place_of
-from motesim.scenario.in_programs import place_of_token
+from motesim.scenario.in_programs import ScenarioFile, place_of_token
 
 MOST_WARNINGS = 20
 # The comments and blank lines at the head of a text, and its comments with faults of the run, as the page writes them.
 HEAD, FAULT = re.compile(r'(?:[ \t]*(?:#.*)?\n)*'), re.compile(r'^# fault: (.*)', re.M)
-
-
-class Finished(NamedTuple):
-    """A run that has a report."""
-    number: int
-    text: str
-    run: Run
-    scenario: Scenario
-
-    def named(self, name: str) -> Run:
-        return self.run._replace(name=name)
-
-
-def faults_of(text: str) -> tuple[str, ...]:
-    """The faults of the run of a text."""
-    found = HEAD.match(text)
-    return tuple(it.strip() for it in FAULT.findall(found[0] if found else ''))
 
 
 def with_faults(text: str, faults: Sequence[str]) -> str:
@@ -48,11 +34,30 @@ def with_faults(text: str, faults: Sequence[str]) -> str:
     return ''.join('# fault: %s\n' % it for it in faults) + re.sub('# fault: .*\n', '', head[0]) + text[head.end():]
 
 
-def finished(number: int, text: str, data: bytes, name: str, fields: tuple[Field, ...] = ()) -> Finished:
+@dataclass
+class Finished:
+    """A run that has a report."""
+    text: str
+    run: Run
+    scenario: Scenario
+
+    @cached_property
+    def source(self) -> Source:
+        """The source for questions about the run."""
+        return source_of(self.run)
+
+
+def faults_of(text: str) -> tuple[str, ...]:
+    """The faults of the run of a text."""
+    found = HEAD.match(text)
+    return tuple(it.strip() for it in FAULT.findall(found[0] if found else ''))
+
+
+def finished(text: str, data: bytes, name: str, fields: tuple[Field, ...] = ()) -> Finished:
     """A run from its report, with the format of its packets."""
     scenario = Scenario.parse(text)
     scenario.fields, scenario.faults = fields, faults_of(text)
-    return Finished(number, text, Run(name, Report.parse(data), scenario, (name or 'text', text)), scenario)
+    return Finished(text, Run(name, Report.parse(data), scenario, ScenarioFile(name or 'text', text)), scenario)
 
 
 def column16(text: str, column: int) -> int:

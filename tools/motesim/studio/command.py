@@ -12,14 +12,13 @@ import webbrowser
 from collections.abc import Iterator
 from pathlib import Path
 
+from motesim.explain.within import limits_of
 from motesim.faults import Fault, in_words
 from motesim.judge.expectations import text_of
-from motesim.runner import Limits
 from motesim.runner.programs import program_path
 from motesim.report.run import refuse_others
 from motesim.scenario.fault_text import faults_asked
 from motesim.studio.desk import Desk
-from motesim.studio.runs import MEGABYTE, Runs
 from motesim.studio.server import Server
 from motesim.studio.session import Session
 
@@ -84,8 +83,7 @@ def status_of(asked: argparse.Namespace) -> int:
     # (the studio runs for hours, so it needs the garbage collector, unlike other commands)
     gc.enable()
     program_path()
-    runs = Runs(Limits(asked.seconds, asked.memory * MEGABYTE, asked.report * MEGABYTE))
-    session = Session(Desk(asked.file), runs, pinned(asked.against) if asked.against else None, faults_asked(asked))
+    session = Session(Desk(asked.file), limits_of(asked), pinned(asked.against) if asked.against else None, faults_asked(asked))
     session.desk.first()
     try:
         server = server_of(session)
@@ -94,7 +92,6 @@ def status_of(asked: argparse.Namespace) -> int:
     with server:
         with contextlib.suppress(KeyboardInterrupt):
             serve(server, not asked.no_open)
-        runs.ask()
-        session.shrinking.stop()
+        session.stop()
     print('studio: ended', file=sys.stderr)
     return 0

@@ -143,10 +143,6 @@ class Desk:
         """The document with which the page opens: the named file, or the first example of examples/README.md."""
         return self.read('folder', self.mine) if self.mine else self.read('example', 'flooding.toml')
 
-    def stamp(self, where: str, name: str) -> str:
-        """The present stamp of a file."""
-        return stamp_of(self.data(self.path(where, name)))
-
     def expectations(self, where: str, name: str) -> tuple[str, str] | None:
         """The name and the text of the expectations next to a scenario, or None."""
         name = name.removesuffix('.toml') + '.expect.toml'

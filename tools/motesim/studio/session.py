@@ -1,6 +1,6 @@
 """Handles the requests of the page.
 
-`Session(desk, runs).answer('run', {...})` returns an `Answered`, or raises a `Fault` whose text the page shows.
+`Session(desk, limits).answer('run', {...})` returns an `Answered`, or raises a `Fault` whose text the page shows.
 """
 from __future__ import annotations
 
@@ -12,19 +12,20 @@ from collections import OrderedDict
 from collections.abc import Sequence
 from typing import Any, Callable, NamedTuple
 
+from motesim.causes.studio import answer
 from motesim.explain.within import busiest
 from motesim.faults import Fault
 from motesim.judge.expectations import parts_of
+from motesim.runner import LimitMet, Limits, Runner, Stopped
 from motesim.studio import answers
 from motesim.studio.desk import Changed, Desk, Document, stamp_of
 from motesim.studio.examples import offered
-from motesim.studio.runs import Runs, Superseded
-from motesim.studio.shrinking import Shrinking
+from motesim.studio.shrinking import small_text
 from motesim.timeline.columns import fields_of
 from motesim.timeline.html import page_of
-from motesim.causes.studio import Causes
 
 MOST_KEPT = 4
+RAISE = 'The run was stopped: %s. Start tools/studio with a larger %s.'
 JSON, HTML = 'application/json', 'text/html; charset=utf-8'
 
 
@@ -52,19 +53,16 @@ def _text(asked: dict[str, Any], name: str) -> str:
 class Session:
     """Runs and files for the page."""
 
-    def __init__(self, desk: Desk, runs: Runs, against: str | None = None, faults: Sequence[str] = ()):
-        self.desk, self.runs = desk, runs
+    def __init__(self, desk: Desk, limits: Limits, against: str | None = None, faults: Sequence[str] = ()):
+        self.desk, self.limits = desk, limits
         self.against, self.faults = against, faults
-        self.shrinking = Shrinking(runs.limits)
         self.kept: OrderedDict[str, answers.Finished] = OrderedDict()
-        self.newest, self.ticket = '', 0
-        self.lock = threading.Lock()
+        self.newest: str | None = None
         self.work = threading.Lock()
         self.does: dict[str, Callable[[dict[str, Any]], Answered]] = {
             'begin': self.begin, 'open': self.open, 'explain': self.explain, 'advise': self.advise, 'warn': self.warn,
             'expectations': self.expected, 'expect': self.expect, 'save': self.save, 'export': self.export,
             'shrink': self.shrink}
-        self.causes = Causes()
         for what in 'why', 'state', 'statement':
             self.does[what] = functools.partial(self.cause, what)
 
@@ -85,7 +83,7 @@ class Session:
         """The content of the page when it opens."""
         files = [] if self.desk.folder == self.desk.examples else self.desk.names('folder')
         return as_json({**self.opened(self.desk.first()), **offered(), 'files': files, 'folder': str(self.desk.folder),
-                        'against': self.against, 'faults': self.faults, 'seconds': self.runs.limits.seconds})
+                        'against': self.against, 'faults': self.faults, 'seconds': self.limits.seconds})
 
     def open(self, asked: dict[str, Any]) -> Answered:
         return as_json(self.opened(self.desk.read(_text(asked, 'where'), _text(asked, 'name'))))
@@ -116,37 +114,41 @@ class Session:
 
     def advise(self, asked: dict[str, Any]) -> Answered:
         """What a run that was stopped at a limit does so often."""
-        until = time.monotonic() + self.runs.limits.seconds
+        until = time.monotonic() + self.limits.seconds
         return as_json({'does': busiest(_text(asked, 'text').encode('utf-8'), goes_on=lambda: time.monotonic() < until)})
 
     def done(self, asked: dict[str, Any]) -> answers.Finished:
         """The run of a text, which is kept; a run of another text is stopped."""
-        text = _text(asked, 'text')
-        with self.lock:
-            if text in self.kept:
-                self.kept.move_to_end(text)
-                return self.kept[text]
-            if text != self.newest:
-                self.newest, self.ticket = text, self.runs.ask()
-            ticket = self.ticket
+        text = self.newest = _text(asked, 'text')
         with self.work:
             if text not in self.kept:
-                got = self.runs.run(ticket, text.encode('utf-8'), answers.faults_of(text))
-                if got.status:
-                    raise Fault('the text has an error, so it has no run')
-                fields = answers.fields_of(self.expectations(asked))
-                made = answers.finished(ticket, text, got.report, str(asked.get('name', '')), fields)
-                with self.lock:
-                    self.kept[text] = made
-                    while len(self.kept) > MOST_KEPT:
-                        self.kept.popitem(last=False)
+                self.kept[text] = self.run(text, asked)
+                while len(self.kept) > MOST_KEPT:
+                    self.kept.popitem(last=False)
+            self.kept.move_to_end(text)
             return self.kept[text]
+
+    def run(self, text: str, asked: dict[str, Any]) -> answers.Finished:
+        """Runs a text; raises `Stopped` once there is a newer one."""
+        runner = Runner(limits=self.limits, asks_end=lambda: self.newest != text, faults=answers.faults_of(text))
+        try:
+            got = runner.answer(text.encode('utf-8'))
+        except LimitMet as met:
+            raise Fault(RAISE % (met, met.option)) from None
+        if got.status:
+            raise Fault('the text has no run: %s' % got.why)
+        fields = answers.fields_of(self.expectations(asked))
+        return answers.finished(text, got.report, str(asked.get('name', '')), fields)
+
+    def stop(self) -> None:
+        """Stops the run that runs now."""
+        self.newest = None
 
     def warn(self, asked: dict[str, Any]) -> Answered:
         """The warnings about a run, and the fields of its values."""
         try:
             done = self.done(asked)
-        except Superseded:
+        except Stopped:
             return as_json({'gone': True})
         with self.work:
             return as_json({'warnings': answers.warned(done), 'fields': fields_of(done.run).get('fields', {})})
@@ -175,13 +177,14 @@ class Session:
     def cause(self, what: str, asked: dict[str, Any]) -> Answered:
         """The answer to a question about the causes of a run."""
         done = self.done(asked)
-        return as_json(self.causes.answer(what, done.number, done.run, asked))
+        with self.work:
+            return as_json(answer(what, done.source, asked))
 
     def export(self, asked: dict[str, Any]) -> Answered:
         """The page of a run in one file, the same that tools/timeline writes."""
         title = _text(asked, 'title').removesuffix('.toml')
-        return Answered(HTML, ''.join(page_of(title, [self.done(asked).named(title)])).encode('utf-8'))
+        return Answered(HTML, ''.join(page_of(title, [self.done(asked).run._replace(name=title)])).encode('utf-8'))
 
     def shrink(self, asked: dict[str, Any]) -> Answered:
         """A small scenario in which an expectation is broken by the same faults."""
-        return as_json({'text': self.shrinking.text(_text(asked, 'text'), _text(asked, 'sentence'))})
+        return as_json({'text': small_text(_text(asked, 'text'), _text(asked, 'sentence'), self.limits)})

@@ -40,11 +40,10 @@ TWICE = ('a mote prints the same value twice as a source: mote %d prints %d at m
 SAME_LINES = ('. In this flow, the same lines begin messages and deliver them: the first line with a value begins the '
               'message, and the lines of other motes with this value are its deliveries. So messages of several motes '
               'need different lines for their beginning and their delivery, as in `print source -> print sink`')
-# The faults of flows without a value.
-BACKWARDS = 'no flow: %r: no value is from %d to %d; write the smaller number first'
-TOO_GREAT = 'no flow: %%r: values are 0 to %d, and %%d is greater' % MOST_WORD
-DISJOINT = ('no flow: %r: no value is in both ranges, %s and %s. A flow recognises a message by its value, so the line '
-            'that begins a message and the lines that deliver it must print or send the same value')
+# The fault of a flow without a value.
+NO_VALUE = ('no flow: %%r: no value from 0 to %d is in its ranges, each of which is from a number to a greater one. A flow '
+            'recognises a message by its value, so the line that begins a message and the lines that deliver it must print '
+            'or send the same value' % MOST_WORD)
 
 
 class FlowFault(Fault):
@@ -89,16 +88,11 @@ def read_flow(words: str) -> tuple[Mark, Mark]:
         raise FlowFault('no flow: %r. A flow is END or BEGIN -> END; each is `print PROCESS`, `send` or `recv`, '
                         'followed by values such as `1 to 99` if you don\'t mean all' % words)
     found = [Mark(it[1] or 'print', it[2], int(it[3] or 0), int(it[4] or it[3] or MOST_WORD)) for it in marks if it]
-    # (a message has one value, so a value that its end excludes doesn't begin one)
-    for mark in found:
-        if mark.least > mark.most:
-            raise FlowFault(BACKWARDS % (words, mark.least, mark.most))
-        if mark.least > MOST_WORD:
-            raise FlowFault(TOO_GREAT % (words, mark.least))
     begin, end = (found[0], found[1]) if len(found) == 2 else (Mark('send'), found[0])
-    least, most = max(begin.least, end.least), min(begin.most, end.most)
+    # (a message has one value, so a value that its end excludes doesn't begin one)
+    least, most = max(begin.least, end.least), min(begin.most, end.most, MOST_WORD)
     if least > most:
-        raise FlowFault(DISJOINT % (words, begin.values, end.values))
+        raise FlowFault(NO_VALUE % words)
     return begin._replace(least=least, most=most), end._replace(least=least, most=most)
 
 

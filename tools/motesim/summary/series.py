@@ -35,10 +35,13 @@ class Series:
         """Follows the length of a mote's queue."""
         depth, until, last_taken = 0, 0, -1
         posted: list[int] = []
-        for line in self.report.trace.lines(mote, kinds=('post', 'take', 'drop')):
+        for line in self.report.trace.lines(mote, kinds=('post', 'take', 'drop', 'boots')):
             part = line.at // self.by
             if line.kind == 'post':
                 posted.append(line.at)
+            elif line.kind == 'boots':
+                # (serials begin at 0 again)
+                posted, last_taken = [], -1
             elif line.serial is not None and line.serial > last_taken:
                 # (each process gets an event for all, but the event leaves the queue only once)
                 last_taken = line.serial

@@ -12,7 +12,6 @@
     study.py           searches with their expected results
 
     shrink_command.py  tools/shrink
-    shrink_found.py    tools/search --shrink
     shrink.py          delta debugging
     net.py, smaller.py   scenarios and programs as values, and the steps to smaller ones
     following.py       sentences that follow motes with other numbers

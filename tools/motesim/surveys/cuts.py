@@ -12,6 +12,7 @@ from functools import cached_property
 from motesim.faults import Fault
 from motesim.judge.claim_words import Deed
 from motesim.judge.finder import Finder
+from motesim.report import Report
 from motesim.runner import Limits, Runner
 from motesim.scenario import Scenario
 from motesim.scenario.fault_text import read_faults
@@ -46,7 +47,7 @@ class Cuts:
     @cached_property
     def plain(self) -> Source:
         """The run without faults."""
-        return Source('', Runner(limits=self.limits).report(self.scenario.text.encode()), self.scenario)
+        return Source('', Report.parse(Runner(limits=self.limits).report(self.scenario.text.encode())), self.scenario)
 
     def reached(self, origin: int, broken: set[tuple[int, int]]) -> set[int]:
         """The motes that packets of a mote can reach, itself included."""

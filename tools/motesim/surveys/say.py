@@ -6,7 +6,6 @@ from pathlib import Path
 
 from motesim.cells import aligned
 from motesim.judge.claim_words import motes_text
-from motesim.judge.shortfall import Shortfall
 from motesim.surveys.cuts import Cut
 from motesim.surveys.kinds import KINDS, Kinds
 from motesim.surveys.searching import Found, Result
@@ -113,19 +112,3 @@ def last_lines(result: Result, folder: Path, scenario: Path) -> Iterator[str]:
             counted(count, 'counter-example is', 'counter-examples are'), folder, scenario)
     if result.ended_by:
         yield 'NOT ALL WAS TRIED: %s' % result.ended_by
-
-
-def repeated_lines(results: Sequence[tuple[str, Result]]) -> Iterator[str]:
-    """A row for each set that breaks an expectation in some of several searches: in how many of them, how many lines it
-    lacks there, the faults, and which searches these are."""
-    sets = dict[str, list[tuple[str, Found]]]()
-    for shown, result in results:
-        for it in result.found:
-            sets.setdefault(it.words, []).append((shown, it))
-    rows = [('breaks', 'missing', 'faults, the worst first')]
-    for words, its in sorted(sets.items(), key=lambda it: (-len(it[1]), -sum(found.missing for _, found in it[1]))):
-        lacks = Shortfall(*map(sum, zip(*(it.measured.lacks if it.measured else Shortfall() for _, it in its))))
-        rows.append(('%d of %d' % (len(its), len(results)), '{:,} of {:,}'.format(*lacks) * bool(lacks.wanted), words))
-        rows.append(('', '', '  with ' + '; '.join(shown for shown, _ in its)))
-    if sets:
-        yield from ('', *aligned(rows, range(3), '  '))

@@ -33,12 +33,14 @@ MOST_MEASURED, NO_LIMITS = 200, Limits(float('inf'))
 
 
 class Asked(NamedTuple):
-    """What is asked: a scenario, its expectations, the kinds of faults, and the bounds; and the most seconds."""
+    """What is asked: a scenario, its expectations, the kinds of faults, and the bounds; the most seconds; and whether to
+    try larger sets only until each expectation is broken, which says how many faults it bears."""
     scenario: Scenario
     texts: Sequence[str]
     kinds: Kinds = USUAL
     bounds: Bounds = Bounds()
     seconds: float | None = None
+    how_many: bool = False
 
 
 @dataclass
@@ -113,7 +115,7 @@ def search_of(asked: Asked, workers: int = os.cpu_count() or 1, limits: Limits =
     claims, unsaid = claims_of(asked)
     if not claims:
         raise Fault('; '.join('%s: no claim: %s' % it for it in unsaid.items()) or 'there is no expectation on a report')
-    survey, ended_by = surveyed(asked, [it for its in claims.values() for it in its], workers, asks_end,
+    survey, ended_by = surveyed(asked, claims, workers, asks_end,
                                 lambda size, last: shown(size, last, time.monotonic() - begun), begun)
     sets = sets_of(claims, survey)
     broken = [text for text, its in sets.items() if its == [()]]
@@ -138,7 +140,7 @@ def claims_of(asked: Asked) -> tuple[dict[str, list[Claim]], dict[str, str]]:
     return found, unsaid
 
 
-def surveyed(asked: Asked, claims: Sequence[Claim], workers: int, asks_end: Callable[[], bool],
+def surveyed(asked: Asked, claims: dict[str, list[Claim]], workers: int, asks_end: Callable[[], bool],
              shown: Callable[[int, Survey | None], None], begun: float) -> tuple[Survey | None, str]:
     """The survey of the largest sets that are covered, and why no larger ones are, or an empty text."""
     survey, why = None, ''
@@ -154,13 +156,15 @@ def surveyed(asked: Asked, claims: Sequence[Claim], workers: int, asks_end: Call
 
     for size in range(min(1, asked.bounds.at_most), asked.bounds.at_most + 1):
         try:
-            found = survey_of(asked.scenario.text.encode(), [it.text for it in claims], asked.kinds,
-                              asked.bounds._replace(at_most=size), workers, NO_LIMITS, is_over)
+            found = survey_of(asked.scenario.text.encode(), [it.text for its in claims.values() for it in its],
+                              asked.kinds, asked.bounds._replace(at_most=size), workers, NO_LIMITS, is_over)
         except Stopped:
             return survey, why
         survey = found
         if not survey.is_whole:
             return survey, 'the limit of {:,} runs was reached'.format(asked.bounds.runs)
+        if asked.how_many and all(sets_of(claims, survey).values()):
+            break
     return survey, ''
 
 

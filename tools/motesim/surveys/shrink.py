@@ -6,7 +6,7 @@ search ends when no step is left, so the result is one-minimal.
 """
 from __future__ import annotations
 
-from collections.abc import Callable, Iterable, Iterator, Sequence
+from collections.abc import Callable, Iterator, Sequence
 from dataclasses import dataclass, field
 from typing import NamedTuple
 
@@ -25,13 +25,14 @@ from motesim.scenario.fault_text import NetFault
 from motesim.scenario.fields import Field
 from motesim.scenario.scenario import Scenario
 from motesim.surveys.following import follow, names_motes_in_quotes
-from motesim.surveys.net import PARTS, Net, NetStep, loss_steps, mote_steps, net_of, number_steps, program_steps
+from motesim.surveys.net import Net, NetStep, loss_steps, mote_steps, number_steps, program_steps
 from motesim.causes.cause import NO_CAUSE, Cause, cause_of
 from motesim.causes.source import Source
 
 NAME = 'the scenario'
-STEPS: dict[str, Callable[[Net], Iterator[NetStep]]] = {
-    'motes': mote_steps, 'losses': loss_steps, 'programs': program_steps, 'numbers': number_steps}
+# The sorts of steps, each of which makes a net smaller.
+STEPS: tuple[Callable[[Net], Iterator[NetStep]], ...] = (mote_steps, loss_steps, program_steps, number_steps)
+
 
 class Case(NamedTuple):
     """A net, the sentence that it breaks, the faults with which it is run (without them the sentence has to hold), and
@@ -75,17 +76,15 @@ def read_or_none(sentence: str, scenario: Scenario) -> Sentence | None:
 
 @dataclass
 class Shrinking:
-    """A case on its way to a smaller one, with its steps so far and the number of runs."""
+    """A case on its way to a smaller one, with the numbers of its steps so far, and of its runs."""
     program: Runner
     case: Case
     is_over: Callable[[], bool] = lambda: False
-    taken: list[str] = field(default_factory=list)
+    steps: int = 0
     runs: int = 0
     is_whole: bool = True
     last: int = 0
     longest: int | None = None
-    # The parts of the scenario that stay: some of `net.PARTS`.
-    keeps: frozenset[str] = frozenset()
     # The declared format of packets.
     fields: tuple[Field, ...] = ()
     # The numbers that the present motes had at first.
@@ -177,8 +176,8 @@ class Shrinking:
         goes_on = True
         while goes_on:
             goes_on = self.drop_faults()
-            for name in STEPS:
-                goes_on |= self.take_all(name)
+            for steps in STEPS:
+                goes_on |= self.take_all(steps)
                 if self.is_over():
                     self.is_whole = False
                     return
@@ -190,15 +189,15 @@ class Shrinking:
             case = self.case._replace(faults=tuple(one for one in self.case.faults if one != it))
             if case.faults and not self.is_over() and self.way_now(case) == self.way:
                 self.case, self.now = case, self.judged
-                self.taken.append('removes the fault `%s`' % it.text)
+                self.steps += 1
         return self.case.faults != before
 
-    def take_all(self, name: str) -> bool:
+    def take_all(self, steps: Callable[[Net], Iterator[NetStep]]) -> bool:
         """Takes steps of one sort, as long as there are any; returns whether one was taken."""
         found = False
         at = 0
         while not self.is_over():
-            tried = [it for it in STEPS[name](self.case.net) if it.part not in self.keeps]
+            tried = list(steps(self.case.net))
             for offset in range(len(tried)):
                 index = (at + offset) % len(tried)
                 if self.is_over():
@@ -207,7 +206,7 @@ class Shrinking:
                 if case is not None and self.way_now(case) == self.way:
                     self.case, self.now, found, at = case, self.judged, True, index
                     self.motes = [it for mote, it in enumerate(self.motes) if mote not in tried[index].removed]
-                    self.taken.append(tried[index].words)
+                    self.steps += 1
                     break
             else:
                 return found
@@ -215,7 +214,7 @@ class Shrinking:
 
     def causes(self) -> tuple[Cause, Cause] | None:
         """The causes for which the first and the present scenario break the sentence, if they differ."""
-        first, now = (cause_of(Source(NAME, seen.report, seen.scenario), case.sentence) if seen else NO_CAUSE
+        first, now = (cause_of(Source(NAME, Report.parse(seen.report), seen.scenario), case.sentence) if seen else NO_CAUSE
                       for case, seen in ((self.first, self.seen_first), (self.case, self.now)))
         return (first, now) if now.differs(first) else None
 
@@ -223,16 +222,3 @@ class Shrinking:
     def renumbered(self) -> str:
         """The motes that have other numbers than at first, as in `mote 0 was 3, mote 1 was 4`, or an empty text."""
         return ', '.join('mote %d was %d' % it for it in enumerate(self.motes) if it[0] != it[1])
-
-
-def case_of(scenario: Scenario, sentence: str, faults: Iterable[NetFault] = (), keeps: tuple[str, ...] = (),
-            keeps_programs: bool = False) -> Case:
-    """The case of a scenario."""
-    return Case(net_of(scenario, keeps_programs), sentence, tuple(faults), keeps)
-
-
-def parts_and_sentences(words: Sequence[str]) -> tuple[frozenset[str], tuple[str, ...]]:
-    """The parts that options such as `--keep end,places` name, and the sentences that others have."""
-    lists = [(it, [word.strip() for word in it.split(',')]) for it in words]
-    parts = [word for _, its in lists if set(its) <= set(PARTS) for word in its]
-    return frozenset(parts), tuple(it for it, its in lists if not set(its) <= set(PARTS))

@@ -6,19 +6,12 @@ is finite. Some results aren't programs, for instance if a removed variable is s
 from __future__ import annotations
 
 from collections.abc import Callable, Iterator, Sequence
-from typing import NamedTuple, TypeVar
+from typing import TypeVar
 
-from motesim.notation.printer import head_of, head_of_part
 from motesim.notation.tree import Block, Code, Declaration, Expression, Not, Operation, Program, Statement, Test, Value
 from motesim.notation.tree import word
 
 T = TypeVar('T')
-
-
-class Step(NamedTuple):
-    """A step in words, and the program to which it leads."""
-    words: str
-    program: Program
 
 
 def smaller_numbers(number: int) -> Iterator[int]:
@@ -61,69 +54,54 @@ def expressions(it: Expression) -> Iterator[Expression]:
             yield it._replace(right=right)
 
 
-Changed = Iterator[tuple[str, Block]]
-
-
-def blocks(block: Block) -> Changed:
-    """Smaller blocks, each with the step in words, the large steps first."""
+def blocks(block: Block) -> Iterator[Block]:
+    """Smaller blocks, after the large steps first: without a statement, or with its inner block in its place."""
+    for at in range(len(block)):
+        yield without(block, at)
     for at, it in enumerate(block):
-        yield 'removes `%s`' % head_of(it), without(block, at)
+        if it.has_blocks:
+            yield instead(block, at, *it.block)
+        if it.otherwise is not None:
+            yield instead(block, at, *it.otherwise)
     for at, it in enumerate(block):
-        for words, others in unfolded(it):
-            yield words, instead(block, at, *others)
-    for at, it in enumerate(block):
-        for words, other in statements(it):
-            yield words, instead(block, at, other)
+        for other in statements(it):
+            yield instead(block, at, other)
 
 
-def unfolded(it: Statement) -> Changed:
-    """Replaces a statement with blocks by the statements in them."""
-    if it.has_blocks:
-        yield 'replaces `%s` by its block' % head_of(it), it.block
-    if it.otherwise is not None:
-        yield 'replaces `%s` by the block of its `else`' % head_of(it), it.otherwise
-
-
-def statements(it: Statement) -> Iterator[tuple[str, Statement]]:
+def statements(it: Statement) -> Iterator[Statement]:
     """Smaller forms of one statement."""
     if it.into:
-        yield 'removes `into %s` of `%s`' % (it.into, head_of(it)), it._replace(into='')
+        yield it._replace(into='')
     if it.otherwise is not None:
-        yield 'removes `else` of `%s`' % head_of(it), it._replace(otherwise=None)
-    for words, block in blocks(it.block):
-        yield words, it._replace(block=block)
-    for words, block in blocks(it.otherwise or ()):
-        yield words, it._replace(otherwise=block)
+        yield it._replace(otherwise=None)
+    for block in blocks(it.block):
+        yield it._replace(block=block)
+    for block in blocks(it.otherwise or ()):
+        yield it._replace(otherwise=block)
     for value in expressions(it.value) if it.value else ():
-        other = it._replace(value=value)
-        yield '`%s` becomes `%s`' % (head_of(it), head_of(other)), other
+        yield it._replace(value=value)
 
 
-def declared(its: tuple[Declaration, ...], kind: str, initial: str) -> Iterator[tuple[str, tuple[Declaration, ...]]]:
-    """Fewer declarations of a kind, and those with a smaller number, which has these words."""
+def declared(its: tuple[Declaration, ...]) -> Iterator[tuple[Declaration, ...]]:
+    """Fewer declarations, and those with a smaller number."""
     for at, it in enumerate(its):
-        if it.kind == kind:
-            yield 'removes `%s %s`' % (kind, it.name.text), without(its, at)
-            for less in smaller_numbers(it.number):
-                yield '`%s %s` has the initial %s %d' % (kind, it.name.text, initial, less), instead(
-                    its, at, it._replace(number=less))
+        yield without(its, at)
+        for less in smaller_numbers(it.number):
+            yield instead(its, at, it._replace(number=less))
 
 
-def codes(code: Code) -> Iterator[tuple[str, Code]]:
+def codes(code: Code) -> Iterator[Code]:
     """Smaller codes of a process."""
-    for at, part in enumerate(code.parts[:-1]):
-        yield 'removes `%s`' % head_of_part(part), code._replace(parts=without(code.parts, at))
+    for at in range(len(code.parts) - 1):
+        yield code._replace(parts=without(code.parts, at))
     for at, part in enumerate(code.parts):
-        for words, block in blocks(part.block):
-            yield words, code._replace(parts=instead(code.parts, at, part._replace(block=block)))
-    for kind in 'etimer', 'var':
-        for words, its in declared(code.declared, kind, 'value'):
-            yield words, code._replace(declared=its)
+        for block in blocks(part.block):
+            yield code._replace(parts=instead(code.parts, at, part._replace(block=block)))
+    for its in declared(code.declared):
+        yield code._replace(declared=its)
 
 
 OF_PROCESSES = ('post', 'synch', 'poll', 'start', 'kill')
-
-
 # A change of a value or a test in an expression.
 Change = Callable[[Value | Test], Expression]
 
@@ -181,22 +159,20 @@ def _before(value: Value, numbers: Sequence[int]) -> Expression:
     return found
 
 
-def programs(program: Program) -> Iterator[Step]:
-    """All programs that are one step smaller, the large steps first."""
+def programs(program: Program) -> Iterator[Program]:
+    """All programs that are one step smaller, after the large steps first."""
     if len(program.codes) > 1:
         for code in program.codes:
-            yield Step('removes the process %s' % code.process.text, without_process(program, code.process.text))
-    for at, name in enumerate(program.autostart):
-        left = without(program.autostart, at)
-        yield Step('removes %s from `autostart`' % name.text, program._replace(autostart=left))
+            yield without_process(program, code.process.text)
+    for at in range(len(program.autostart)):
+        yield program._replace(autostart=without(program.autostart, at))
     if program.receiver:
-        yield Step('removes `receiver %s`' % program.receiver.text, program._replace(receiver=None))
+        yield program._replace(receiver=None)
     for at, code in enumerate(program.codes):
-        for words, other in codes(code):
-            yield Step(words, program._replace(codes=instead(program.codes, at, other)))
-    for kind in 'event', 'semaphore':
-        for words, its in declared(program.declared, kind, 'count'):
-            yield Step(words, program._replace(declared=its))
+        for other in codes(code):
+            yield program._replace(codes=instead(program.codes, at, other))
+    for its in declared(program.declared):
+        yield program._replace(declared=its)
 
 
 def statements_in(program: Program) -> int:

@@ -12,10 +12,9 @@ from motesim.judge.reasons import Broken
 from motesim.judge.meaning import Value
 from motesim.report.run import Run
 from motesim.causes.miss import last_of, misses
-from motesim.causes.pages import source_of
 from motesim.causes.question import Asked, Asker, Missing
 from motesim.causes.say import about, of_miss
-from motesim.causes.source import Source
+from motesim.causes.source import Source, source_of
 
 MOST_LINES = 8
 

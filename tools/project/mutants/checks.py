@@ -1,4 +1,5 @@
-"""Judges mutants of one crate: many in one check, and those that remain undecided one by one.
+"""Judges mutants of one crate: many in one check, and halves of those that remain undecided; then all harmless twins in
+one check.
 
 A control comes first: it checks, without any edit, the functions that are changed and those that they call, or the
 whole crate, and has to prove them. Each group of mutants is checked with the results that the control has kept, so
@@ -9,12 +10,13 @@ from __future__ import annotations
 import re
 import shutil
 import tempfile
-from collections.abc import Iterable, Sequence
+import time
+from collections.abc import Callable, Iterable, Sequence
 from pathlib import Path
 from typing import NamedTuple
 
 from project.kit import checked, kept_by_check, linked, says_nothing
-from project.mutants.edits import Edit, together
+from project.mutants.edits import Edit, applied, groups
 
 # The verdicts on a mutant, the best first. The prover refuses it for a goal of a contract. Or it is open whether the
 # contract refuses it, because its harmless twin is refused too, or because the prover refuses it only for safety, only
@@ -185,75 +187,74 @@ def only(edits: Sequence[Edit]) -> list[str]:
 
 
 class Trial:
-    """The checks of mutants of a crate."""
+    """The checks of mutants of a crate, the seconds of each, that of the control first, and the verdicts."""
 
     def __init__(self, edits: Sequence[Edit]):
+        self.edits = edits
         self.crate = edits[0].crate
-        self.only = only(edits)
+        self.is_by_name = True
         self.kept: Path | None = None
+        self.found: dict[Edit, Verdict] = {}
+        self.seconds: list[float] = []
 
     def control(self, jobs: int) -> None:
         """Checks the crate without an edit; if that isn't proved, nothing is known about any mutant."""
-        self.kept = kept_by_check(self.crate, ['--jobs', str(jobs), *self.only])
-        if self.kept is None and self.only:
+        start = time.monotonic()
+        self.kept = kept_by_check(self.crate, ['--jobs', str(jobs), *only(self.edits)])
+        if self.kept is None and only(self.edits):
             # (a name may fit several functions)
-            self.only = []
+            self.is_by_name = False
             self.kept = kept_by_check(self.crate, ['--jobs', str(jobs)])
+        self.seconds.append(time.monotonic() - start)
 
-    def forget(self, _jobs: int) -> None:
-        """Deletes the results that the control has kept."""
+    def judge(self, group: Sequence[Edit], _jobs: int = 1) -> None:
+        """Judges mutants of a group, without their twins."""
+        unknown = Verdict(UNKNOWN, '', "the crate without an edit isn't proved")
+        self.found |= self.verdicts(group) if self.kept else dict.fromkeys(group, unknown)
+
+    def end(self, _jobs: int = 1) -> dict[Edit, Verdict]:
+        """Tries the harmless twins of the mutants that are refused, deletes the results that the control has kept, and
+        returns the verdicts."""
+        with_twin = [it for it in self.found if it.twin and may_pass(self.found[it])]
+        refused = {it: verdict for group in groups(with_twin, twins=True) for it, verdict in self.twins_refused(group).items()}
+        self.found |= {it: refused.get(it) or Verdict(CONTRACT, self.found[it].function, TWIN_ACCEPTED + self.found[it].why)
+                       for it in with_twin}
         if self.kept:
             shutil.rmtree(self.kept)
+        return self.found
 
-    def verdicts(self, group: Sequence[Edit]) -> dict[Edit, Verdict]:
-        """The verdict on each mutant of a group."""
-        if self.kept is None:
-            return dict.fromkeys(group, Verdict(UNKNOWN, '', "the crate without an edit isn't proved"))
-        found = self.verdicts_together(group, self.kept) if len(group) > 1 else {}
-        found = {it: found.get(it) or self.verdict_alone(it, self.kept) for it in group}
-        with_twin = [it for it in group if it.twin and may_pass(found[it])]
-        accepted = {it: Verdict(CONTRACT, found[it].function, TWIN_ACCEPTED + found[it].why) for it in with_twin}
-        return found | accepted | self.twins_refused(with_twin, self.kept)
-
-    def twins_refused(self, group: Sequence[Edit], kept: Path) -> dict[Edit, Verdict]:
-        """The verdicts on those mutants whose harmless twin the prover doesn't accept: first all in one check."""
-        if not group:
-            return {}
-        lines, status, _ = self.check(group, kept, twins=True)
-        refused = set(map(function_of, refused_in(lines, Path(self.crate.folder))))
-        proved = {function_of(it[1]) for it in map(PROVED.match, lines) if it} - refused
-        found = {}
-        for edit in group if status else ():
-            if not any(is_in(it, edit.function) for it in proved):
-                lines, status, _ = self.check([edit], kept, twins=True)
-                if status:
-                    found[edit] = best(edit, refused_in(lines, Path(self.crate.folder)))._replace(kind=TWIN)
-        return found
-
-    def check(self, edits: Sequence[Edit], kept: Path, *, twins: bool = False) -> tuple[list[str], int, bool]:
+    def check(self, edits: Sequence[Edit], *, twins: bool = False) -> tuple[list[str], int, bool]:
         """The lines and the status of a check with these edits, or with their harmless twins, with a copy of the
         results that the control has kept; and whether the check ended before the proofs."""
-        texts = together([twins and it.twin or it.text for it in edits], self.crate.folder)
-        words = only(edits) if self.only else []
+        start, texts = time.monotonic(), applied(edits, twins)
+        words = only(edits) if self.is_by_name else []
+        assert self.kept and texts
         with tempfile.TemporaryDirectory(prefix='mutants-') as room:
-            ran = checked(self.crate, texts, ['--jobs', '1', *words], linked(kept, Path(room, 'kept')))
+            ran = checked(self.crate, texts, ['--jobs', '1', *words], linked(self.kept, Path(room, 'kept')))
+        self.seconds.append(time.monotonic() - start)
         lines = ran.stdout.rstrip('\n').split('\n')
         return lines, ran.returncode, says_nothing(lines, texts)
 
-    def verdicts_together(self, group: Sequence[Edit], kept: Path) -> dict[Edit, Verdict]:
-        """The verdicts on those mutants of a group that one check with all their edits refuses for their meaning, if
-        their harmless twins are accepted. If only another proof by hand no longer fits, it may be that of another
-        mutant's function, in the same cycle of calls or called by this one."""
-        lines, _, is_void = self.check(group, kept)
-        if is_void or not lines[-1].startswith(VERDICTS):
-            return {}
-        refused = refused_in(lines, Path(self.crate.folder))
+    def verdicts(self, group: Sequence[Edit]) -> dict[Edit, Verdict]:
+        """The verdicts on mutants of a group: those that one check with all their edits refuses for their meaning, if
+        their harmless twins are accepted, and the others by checks of halves of them. If only another proof by hand no
+        longer fits, it may be that of another mutant's function, in the same cycle of calls or called by this one."""
+        if len(group) == 1:
+            return {group[0]: self.verdict_alone(group[0])}
+        lines, _, is_void = self.check(group)
+        is_judged = not is_void and lines[-1].startswith(VERDICTS)
+        refused = refused_in(lines, Path(self.crate.folder)) if is_judged else {}
         found = {it: best(it, refused) for it in group}
-        return {edit: it for edit, it in found.items() if it.kind == CONTRACT or edit.twin and may_pass(it)}
+        found = {edit: it for edit, it in found.items() if it.kind == CONTRACT or edit.twin and may_pass(it)}
+        return found | self.of_halves([it for it in group if it not in found], self.verdicts)
 
-    def verdict_alone(self, edit: Edit, kept: Path) -> Verdict:
+    def of_halves(self, edits: Sequence[Edit], judged: Callable[[Sequence[Edit]], dict[Edit, Verdict]]) -> dict[Edit, Verdict]:
+        halves = edits[:len(edits) // 2], edits[len(edits) // 2:]
+        return {edit: it for half in halves if half for edit, it in judged(half).items()}
+
+    def verdict_alone(self, edit: Edit) -> Verdict:
         """The verdict on a mutant by a check with only its edit."""
-        lines, status, is_void = self.check([edit], kept)
+        lines, status, is_void = self.check([edit])
         found = best(edit, refused_in(lines, Path(self.crate.folder)))
         if found.kind != NOT_REFUSED or status == 0:
             return found
@@ -263,3 +264,17 @@ class Trial:
             return Verdict(LIMIT, '', limit or lines[-1])
         is_of_proofs = status == 1 and not edit.function and error.removeprefix('./').startswith('proofs/')
         return Verdict(ANSWER if is_of_proofs and not is_void else UNKNOWN, '', error)
+
+    def twins_refused(self, group: Sequence[Edit]) -> dict[Edit, Verdict]:
+        """The verdicts on those mutants of a group whose harmless twin the prover doesn't accept: first all twins in
+        one check, then those of functions that it doesn't prove, one for each function, and then halves of them."""
+        lines, status, _ = self.check(group, twins=True)
+        refused = refused_in(lines, Path(self.crate.folder))
+        proved = {function_of(it[1]) for it in map(PROVED.match, lines) if it} - {function_of(it) for it in refused}
+        left = [it for it in group if status and not any(is_in(name, it.function) for name in proved)]
+        if len(group) == 1:
+            return {it: best(it, refused)._replace(kind=TWIN) for it in left}
+        parts = groups(left)
+        if len(parts) < 2:
+            return self.of_halves(left, self.twins_refused)
+        return {edit: it for part in parts for edit, it in self.twins_refused(part).items()}

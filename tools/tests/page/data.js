@@ -4,7 +4,7 @@ import {Run, columnsIn} from '../../motesim/timeline/page/data.js';
 import {indexRun} from '../../motesim/timeline/page/index.js';
 import {unpacked} from '../../motesim/timeline/page/packing.js';
 import {columnsOf} from '../../motesim/web/page/report.js';
-import {scenarioOf} from '../../motesim/web/page/scenario.js';
+import {scenarioOf} from '../../motesim/web/page/alone.js';
 
 /** `runs` has for each run its table, its packed columns, its texts, and what the Python package knows of it. */
 export const given = JSON.parse(readFileSync(process.env.MOTESIM_PAGE_DATA, 'utf-8'));

@@ -1,7 +1,6 @@
-// Searches, the chronological order, and the state of a mote.
+// Searches, and the chronological order.
 import assert from 'node:assert/strict';
 import {test} from 'node:test';
-import {stateInWords} from '../../motesim/timeline/page/near.js';
 import {findLines, orderOf} from '../../motesim/timeline/page/log.js';
 import {names, runOf} from './data.js';
 
@@ -25,13 +24,3 @@ for (const name of names) {
     });
   });
 }
-
-test('the state of a mote is what its lines have said so far', async () => {
-  const run = await runOf('silent'), first = run.traceStart[0];
-  const said = Array.from({length: run.traceStart[1] - first}, (_, i) => stateInWords(run, 0, first + i));
-  const none = 'Printed last: nothing yet.', printed = 'Printed last: a 9 at 4.';
-  assert.deepEqual(said, [`Runs now: a, called with init. ${none}`, `Runs now: nothing. ${none}`,
-    `Runs now: a, called with timer 0. ${none}`, `Runs now: a, called with timer 0. ${none}`,
-    `Runs now: nothing. ${none}`, `Runs now: a, called with timer 0. ${none}`,
-    `Runs now: a, called with timer 0. ${printed}`, `Runs now: nothing. ${printed}`]);
-});

@@ -5,7 +5,7 @@ import fs from 'node:fs';
 import {createRequire} from 'node:module';
 import {test} from 'node:test';
 import {distance, mend} from '../../motesim/web/page/mend.js';
-import {placeOfFault} from '../../motesim/web/page/scenario.js';
+import {placeOfFault} from '../../motesim/web/page/errors.js';
 import {given} from './data.js';
 
 const HERE = new URL('..', import.meta.url), WEB = new URL('../../../web/', import.meta.url);

@@ -1,4 +1,4 @@
-//! The first pending event.
+//! The first pending event of all workers, at which the next window begins.
 
 ghost use Rattle.std.specs.Prelude.{◌≡◌};
 ghost use Rattle.worker_window.specs.Next.{TellsNext};

@@ -7,7 +7,7 @@ ghost use Rattle.mote_net.specs.Meaning.{net_of};
 ghost use Rattle.net_agenda.specs.NetSystem.{system_of};
 ghost use Rattle.std.specs.List.{AllByRecursion as Each};
 ghost use Rattle.copy_exchange.specs.Inboxes.{HasNoMarks};
-ghost use Rattle.window_workers.specs.WorkerGroup.{IsAt};
+ghost use Rattle.window_workers.specs.WorkerGroup.{WorkersAreAt};
 ghost use Rattle.window_workers.specs.JoinedRun.{BeginsAt, GroupRunsToEnd};
 ghost use Rattle.window_workers.specs.WindowLength.{HasSoundMedium, length_of_window};
 
@@ -58,9 +58,9 @@ where
     R: Threads + Wait + RandomSource + AllocGlobal + Sync,
     G: Gate + Sync,
     requires inboxes_bounded { length group.inboxes.items ≤ 16 }
-    requires at_moment { IsAt (net_of net.now) owners.now 0 group }
+    requires at_moment { WorkersAreAt (net_of net.now) owners.now 0 group }
     requires plain { Each HasNoMarks group.takers.items }
-    ensures at_moment { let model = net_of net.now in IfOk result (λ done. IsAt model owners.now (suc model.end) done) }
+    ensures at_moment { let model = net_of net.now in IfOk result (λ done. WorkersAreAt model owners.now (suc model.end) done) }
     ensures inboxes { IfOk result (λ done. done.inboxes.items ≡ group.inboxes.items) }
     ensures windows { let model = net_of net.now in
         IfOk result (GroupRunsToEnd model owners.now (length_of_window (system_of model).lookahead longest) group) }

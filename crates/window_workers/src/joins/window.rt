@@ -5,7 +5,7 @@ ghost use Rattle.std.specs.List.{AllByRecursion as Each};
 ghost use Rattle.fork_join.specs.Gravest.{is_own_failure};
 ghost use Rattle.mote_net.specs.Meaning.{net_of};
 ghost use Rattle.copy_exchange.specs.Inboxes.{HasNoMarks};
-ghost use Rattle.window_workers.specs.WorkerGroup.{IsAt};
+ghost use Rattle.window_workers.specs.WorkerGroup.{WorkersAreAt};
 ghost use Rattle.window_workers.specs.JoinedLaws.{GroupRunsUntil};
 
 use crate::group::WorkerGroup;
@@ -43,7 +43,7 @@ where
     G: Gate + Sync,
     requires until_bounded { until ≤ 2 ^ 40 }
     requires inboxes_bounded { length group.inboxes.items ≤ 16 }
-    requires in_state { (from : ℕ) × IsAt (net_of net.now) owners.now from group × (from ≤ until) }
+    requires in_state { (from : ℕ) × WorkersAreAt (net_of net.now) owners.now from group × (from ≤ until) }
     requires plain { Each HasNoMarks group.takers.items }
     ensures runs { IfOk result (GroupRunsUntil (net_of net.now) owners.now until group) }
     ensures plain { IfOk result (λ done. Each HasNoMarks done.takers.items) }

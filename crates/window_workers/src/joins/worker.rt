@@ -1,4 +1,4 @@
-//! One worker in one window.
+//! One worker in one window: the work of the thread that `window` starts.
 
 ghost use Rattle.std.specs.Prelude.{◌≢◌, ℕ, IfErr, IfOk};
 ghost use Rattle.fork_join.specs.declared.work.WorkerError.TheVariants.{Stopped};

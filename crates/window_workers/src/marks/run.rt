@@ -6,7 +6,7 @@ ghost use Rattle.fork_join.specs.Gravest.{is_own_failure};
 ghost use Rattle.mote_net.specs.Meaning.{net_of};
 ghost use Rattle.net_agenda.specs.NetSystem.{system_of};
 ghost use Rattle.copy_inbox.specs.Gathered.{Whole};
-ghost use Rattle.window_workers.specs.WorkerGroup.{IsAt};
+ghost use Rattle.window_workers.specs.WorkerGroup.{WorkersAreAt};
 ghost use Rattle.window_workers.specs.WindowLength.{HasSoundMedium, length_of_window};
 ghost use Rattle.window_workers.specs.Start.{AreReady};
 ghost use Rattle.window_workers.specs.MarkedRun.{GroupRunsMarked};
@@ -47,7 +47,7 @@ where
     G: Gate + Sync,
     requires ready { AreReady (net_of net.now) owners.now group }
     requires marked { Each (λ taker. taker.state.marked ≡ true) group.takers.items }
-    ensures at_moment { let model = net_of net.now in IfOk result (λ done. IsAt model owners.now (suc model.end) done) }
+    ensures at_moment { let model = net_of net.now in IfOk result (λ done. WorkersAreAt model owners.now (suc model.end) done) }
     ensures inboxes { IfOk result (λ done. done.inboxes.items ≡ group.inboxes.items) }
     // Each worker ran all windows, which have this length.
     ensures windows { let model = net_of net.now in

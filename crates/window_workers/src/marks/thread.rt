@@ -1,4 +1,4 @@
-//! A worker in its thread: all windows of the run, one after another.
+//! The work of the thread that `run` starts for a worker: all windows of the run, one after another.
 
 ghost use Rattle.std.specs.Prelude.{◌≡◌, ◌≢◌, ◌^◌, ◌<◌, ◌≤◌, suc, true, [], length, IfErr, IfOk, OnOk};
 ghost use Rattle.fork_join.specs.declared.work.WorkerError.TheVariants.{Stopped, Thread};
@@ -11,7 +11,7 @@ ghost use Rattle.worker_window.specs.Window.{CanRun};
 ghost use Rattle.window_workers.specs.WorkerGroup.{IsCut};
 ghost use Rattle.window_workers.specs.MarkedBounds.{bound, windows_of};
 ghost use Rattle.window_workers.specs.MarkedRefusals.{refused_of_marks};
-ghost use Rattle.window_workers.specs.MarkedThread.{IsFirst, LeadsOn, WorkerRunsAllWindows, SendsWindow, TakesWindow};
+ghost use Rattle.window_workers.specs.MarkedThread.{IsBeforeFirstWindow, LeadsOn, WorkerRunsAllWindows, SendsWindow, TakesWindow};
 ghost use Rattle.window_workers.specs.declared.worker.Worker.{Worker as WorkerOfCode};
 
 use crate::windows::window_end;
@@ -189,7 +189,7 @@ impl<R: Wait + RandomSource + AllocGlobal, G: Gate> MarkRunner<'_, R, G> {
     ) -> Result<Worker, WorkerError>
         requires width_positive { 0 < self.now.run.width }
         requires short { self.now.run.width ≤ (system_of (net_of self.now.run.net.now)).lookahead }
-        requires first { IsFirst (net_of self.now.run.net.now) self.now.run.owners.now self.now.run.inboxes.now worker }
+        requires first { IsBeforeFirstWindow (net_of self.now.run.net.now) self.now.run.owners.now self.now.run.inboxes.now worker }
         ensures runs { let run = self.now.run in let model = net_of run.net.now in IfOk result (WorkerRunsAllWindows
             model run.owners.now run.width (windows_of run.width model.end) run.inboxes.now worker) }
         ensures seen { IfErr result (λ reason. reason ≡ Stopped → watch.new.seen ≡ true) }
@@ -212,7 +212,7 @@ impl<R: Wait + RandomSource + AllocGlobal, G: Gate> MarkRunner<'_, R, G> {
 
 impl<R: Wait + RandomSource + AllocGlobal, G: Gate> Work<Worker> for MarkRunner<'_, R, G> {
     ghost ready = { λ w worker. (0 < w.run.width) × (w.run.width ≤ (system_of (net_of w.run.net.now)).lookahead)
-        × IsFirst (net_of w.run.net.now) w.run.owners.now w.run.inboxes.now worker };
+        × IsBeforeFirstWindow (net_of w.run.net.now) w.run.owners.now w.run.inboxes.now worker };
 
     ghost makes = { λ w old new. let model = net_of w.run.net.now in
         WorkerRunsAllWindows model w.run.owners.now w.run.width

@@ -1,7 +1,7 @@
-// @ts-check
 // Files of the studio: opening, saving, and the page of the run as one file.
-import {byId, handOut, makeButton, stored} from '../../timeline/page/dom.js';
+import {byId, handOut, makeButton, onClick} from '../../timeline/page/dom.js';
 import {page} from '../../timeline/page/stage.js';
+import {drafts, keepDraft} from '../../web/page/keeping.js';
 import {attempt, setOutcome} from '../../web/page/outcome.js';
 import {change, open, runNow, setOpened} from '../../web/page/web.js';
 
@@ -9,19 +9,12 @@ const {web} = page;
 
 const isDirty = () => web.document && web.history.text !== web.saved;
 
-const draftName = () => `motesim draft ${web.folder} ${web.document.where} ${web.document.name}`;
-
-const forgetDraft = () => stored(it => it.removeItem(draftName()));
-
-/** Keeps a text that isn't saved in the browser's storage. */
-const keepDraft = text => isDirty() ? stored(it => it.setItem(draftName(), text)) : forgetDraft();
-
-function offerDraft(document, isAgain) {
-  const draft = stored(it => it.getItem(draftName()));
-  if (isAgain || draft === null || draft === web.history.text) return;
-  setOutcome(`This browser has a text of ${web.document.name} that was not saved.`, '', [], [
-    ['Take it', () => change(draft, 'edit')], ['Forget it', () => {
-      forgetDraft();
+function offerDraft({name}, isAgain) {
+  const draft = drafts().find(it => it.name === name);
+  if (isAgain || !draft || draft.text === web.history.text) return;
+  setOutcome(`This browser has a text of ${name} that was not saved.`, '', [], [
+    ['Take it', () => change(draft.text, 'edit')], ['Forget it', () => {
+      keepDraft(web.saved, draft);
       setOutcome('The text is that of the file.');
     }]]);
 }
@@ -51,10 +44,11 @@ async function save(over = false, named = '') {
     return setOutcome(`${said.changed}.`, 'bad', [], named ? [] : [['Overwrite it with mine', () => save(true)],
       ['Load the other', () => openFile(web.document.name)]]);
   }
-  forgetDraft();
   setOpened({document: {...file, ...said, maySave: true}, saved: text});
+  keepDraft(text);
   nameDocument();
-  setOutcome(`It is saved as ${said.name}.`);
+  const {place} = web.fault || {};
+  setOutcome(`It is saved as ${said.name}${place ? `, with an error in line ${place[0] + 1}` : ''}.`);
 }
 
 function saveAs() {
@@ -72,8 +66,7 @@ async function exportPage() {
 /** @param {{files: string[], folder: string}} began */
 export function beginFiles({files, folder}) {
   web.folder = folder;
-  for (const [id, does] of Object.entries({save: () => save(), 'save-as': saveAs, export: exportPage}))
-    byId(id).addEventListener('click', does);
+  onClick({save: () => save(), 'save-as': saveAs, export: exportPage});
   byId('others').before(...files.map(name => makeButton(name, () => {
     byId('gallery').close();
     openFile(name);
@@ -84,6 +77,6 @@ export function beginFiles({files, folder}) {
     save();
   });
   page.reactions.outdated.push(nameDocument);
-  page.reactions.kept.push(keepDraft);
+  page.reactions.kept.push(text => keepDraft(text));
   page.reactions.opened.push(nameDocument, offerDraft);
 }

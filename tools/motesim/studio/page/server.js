@@ -1,8 +1,7 @@
-// @ts-check
 // What the studio's page asks: runs and verdicts in the page's own workers, and all else from its server.
 import {Refused, page} from '../../timeline/page/stage.js';
 import {Alone} from '../../web/page/alone.js';
-import {withSentence} from '../../web/page/edits.js';
+import {withSentence, withoutSentence} from '../../web/page/edits.js';
 
 const LOST = 'The studio doesn\'t answer. Start it again, and open its page: the browser keeps your text.';
 
@@ -38,11 +37,18 @@ export class Server extends Alone {
 
   /** Adds an expectation to the file beside the document; a claim, or one of another document, to its text. */
   async expect(words) {
-    const {web} = page;
     if (words.includes(': ')) return words;
-    const source = withSentence(this.expected?.text || '', words);
-    await this.ask('expect', {...web.document, text: web.history.text, source, stamp: this.expected?.stamp || ''});
+    await this.write(withSentence(this.expected?.text || '', words));
     return '';
+  }
+
+  /** Takes an expectation out of the file beside the document. */
+  async unexpect(words) { await this.write(withoutSentence(this.expected.text, words)); }
+
+  /** Writes the file of expectations. */
+  async write(source) {
+    const {document, history: {text}} = page.web;
+    await this.ask('expect', {...document, text, source, stamp: this.expected?.stamp || ''});
   }
 
   /** Asks for a value, or for the bytes of a page. */

@@ -1,4 +1,3 @@
-// @ts-check
 // Packets: an arrow for each copy, from its sender's lane at the moment of sending to its receiver's at arrival.
 import {RECV, SEND, lowerBound} from './data.js';
 import {drawArrow, drawPath, ring, stroke} from './forms.js';

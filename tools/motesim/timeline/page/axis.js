@@ -1,17 +1,16 @@
-// @ts-check
 // The frame of a pane's lanes: axis, grid, bands, the names of motes, the heads of islands, which say how many packets
 // each sent, and when; and the moment that the map shows.
+import {lowerBound, numbers} from './data.js';
+import {count} from './dom.js';
 import {box, colours, setFont, write} from './forms.js';
 import {AXIS, HEAD, SMALL_LANE} from './layout.js';
 import {page} from './stage.js';
 import {niceStep} from './time.js';
-import {count} from './words.js';
 
 /** The moments in view that have a line. */
 function moments(pane) {
-  const {time} = page, step = niceStep(76 / time.scale), first = Math.max(0, Math.ceil(time.begin / step) * step);
-  const last = Math.min(time.end, pane.moment(pane.width));
-  return Array.from({length: Math.max(0, Math.floor((last - first) / step) + 1)}, (_, i) => first + i * step);
+  const {time} = page, step = niceStep(76 / time.scale), last = Math.min(time.end, pane.moment(pane.width));
+  return numbers(Math.max(0, Math.ceil(time.begin / step)), Math.floor(last / step) + 1).map(i => i * step);
 }
 
 export function drawAxis(pane) {
@@ -66,15 +65,13 @@ export function drawNames(pane, from, to) {
   }
 }
 
-/** The bins in view with the sends and silences of a group, each of `bin` pieces of time. */
-function binsOf(pane, group, bin) {
-  const {run} = pane, wide = bin * run.piece, sum = its => its.reduce((all, it) => all + it, 0), found = [];
-  const last = Math.min(Math.ceil(run.pieces / bin), Math.ceil(pane.moment(pane.width) / wide));
-  for (let j = Math.max(0, Math.floor(pane.moment(pane.gutter) / wide)); j < last; j++) {
-    const [sent, quiet] = [group.sends, group.silences].map(its => sum(its.subarray(j * bin, (j + 1) * bin)));
-    if (sent || quiet) found.push({from: j * wide, to: (j + 1) * wide, sent, quiet});
-  }
-  return found;
+/** The numbers of sends and silences of a group in each bin of so many moments in view, unless there are none. */
+function binsOf(pane, {sends, silences}, wide) {
+  const first = Math.max(0, Math.floor(pane.moment(pane.gutter) / wide));
+  return numbers(first, Math.ceil(Math.min(pane.run.end + 1, pane.moment(pane.width)) / wide)).map(bin => {
+    const from = bin * wide, to = from + wide, within = its => lowerBound(its, to) - lowerBound(its, from);
+    return {from, to, sent: within(sends), quiet: within(silences)};
+  }).filter(({sent, quiet}) => sent || quiet);
 }
 
 /** Draws a head: the sends and silences of its motes in each bin of moments. */
@@ -101,12 +98,11 @@ function drawHead(pane, group, bins, most, words, bars) {
 
 /** Draws the heads of all islands, to one scale. */
 export function drawHeads(pane) {
-  const {run} = pane, {groups} = run, bin = Math.max(1, Math.round(niceStep(9 / page.time.scale) / run.piece));
-  const bins = groups.map(group => binsOf(pane, group, bin)), anySilent = groups.some(group => group.quiet);
+  const {groups} = pane.run, wide = niceStep(9 / page.time.scale), bars = ` (bars: in ${count(wide, 'moment')})`;
+  const bins = groups.map(group => binsOf(pane, group, wide)), anySilent = groups.some(group => group.silences.length);
   const most = Math.max(1, ...bins.flat().map(it => it.sent + it.quiet));
-  const bars = ` (bars: in ${count(Math.round(bin * run.piece), 'moment')})`;
   groups.forEach((group, g) =>
-    drawHead(pane, group, bins[g], most, headInWords(group.sent, group.quiet, anySilent), bars));
+    drawHead(pane, group, bins[g], most, headInWords(group.sends.length, group.silences.length, anySilent), bars));
 }
 
 /** The head of an island, `1 packet sent, 2 silences`; without silences if no island of the run has one. */

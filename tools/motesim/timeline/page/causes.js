@@ -1,8 +1,7 @@
-// @ts-check
 // The causes of a run's lines, and the chains that they make.
 import {COLLIDE, DROP, LOST, POST, RECV, TAKE, isCall} from './data.js';
+import {count} from './dom.js';
 import {unpacked} from './packing.js';
-import {count} from './words.js';
 
 const WAITS = {timer: 'waiting for timers', medium: 'on the way', queue: 'in queues',
   full: 'for timers that found the queue full'};
@@ -23,7 +22,7 @@ const isArrival = kind => kind === RECV || kind === LOST || kind === COLLIDE;
 function shownCauseOf(run, line, mote) {
   const {kind, p, x} = run, copy = run.handLine.indexOf(line), [from] = run.turn(line, mote);
   if (isArrival(kind[line])) return [run.sendLine[run.packetOf(p[line], x[line])] ?? -1, ''];
-  if (kind[line] === TAKE || kind[line] === DROP) return [run.postOf(mote, x[line]), ''];
+  if (kind[line] === TAKE || kind[line] === DROP) return [run.posts[line], ''];
   if (copy >= 0) return [run.copyLine[copy], ''];
   if (kind[line] === POST && run.e[line] === run.timerEvent) return [-1, 'a timer had come to its end'];
   for (let before = line - 1; before >= from; before--) {

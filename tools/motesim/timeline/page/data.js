@@ -1,18 +1,19 @@
-// @ts-check
 // The columns of a run, as motesim.timeline.columns has them, and the lines of the report that they hold.
 
 export const KINDS = ['start', 'leave', 'post', 'full', 'take', 'drop', 'print', 'busy', 'send', 'recv', 'lost',
-  'collide', 'deaf', 'halt'];
-export const [START, LEAVE, POST, FULL, TAKE, DROP, PRINT, BUSY, SEND, RECV, LOST, COLLIDE, DEAF, HALT] = KINDS.keys();
+  'collide', 'deaf', 'halt', 'boots'];
+export const [START, LEAVE, POST, FULL, TAKE, DROP, PRINT, BUSY, SEND, RECV, LOST, COLLIDE, DEAF, HALT,
+  BOOTS] = KINDS.keys();
 /** The words of a line after its kind, by their columns: a process (p), serial or number (x), event (e) or value (w),
  * or a sender (s), which is in the column p. */
-export const FIELDS = ['p', 'p', 'xpew', 'pew', 'xp', 'xp', 'pw', 'p', 'xw', 'sxw', 'sx', 'sx', 'sx', ''].map(
+export const FIELDS = ['p', 'p', 'xpew', 'pew', 'xp', 'xp', 'pw', 'p', 'xw', 'sxw', 'sx', 'sx', 'sx', '', ''].map(
   it => [...it]);
 /** The number of the process `all`. */
 export const ALL = 0xffff;
 export const ARRAYS = {u8: Uint8Array, u16: Uint16Array, u32: Uint32Array};
 export const isCall = kind => kind === START || kind === TAKE;
 const NONE = new Uint32Array(0), NO_NAMES = /** @type {string[]} */ ([]);
+
 
 /** The first place of a sorted array, from `low` on and below `high`, whose number isn't below `value`. */
 export function lowerBound(array, value, low = 0, high = array.length) {
@@ -42,7 +43,7 @@ export function columnsIn(table, buffer) {
 export class Run {
   begins = NONE; traceStart = NONE; at = NONE; kind = NONE; p = NONE; x = NONE; e = NONE; w = NONE;
   packetAt = NONE; packetSender = NONE; packetNumber = NONE; packetValue = NONE; copyStart = NONE; copyTo = NONE;
-  copyAfter = NONE; sentStart = NONE; sentPackets = NONE; postStart = NONE; postLines = NONE;
+  copyAfter = NONE; sentStart = NONE; sentPackets = NONE; posts = NONE;
   processes = NO_NAMES; events = NO_NAMES; programs = NO_NAMES;
   /** @type {Record<number, string>} the fields of values, if the format of packets is declared */
   fields = {};
@@ -78,6 +79,13 @@ export class Run {
     return {mote, line: line < this.traceStart[mote] ? -1 : line};
   }
 
+  /** The words of a row of the report; those of a trace line with the fields of its value. */
+  rowText(row) {
+    const {packet, mote, line} = /** @type {any} */ (this.atRow(row));
+    return packet !== undefined ? this.packetText(packet) : line >= 0 ? `${this.at[line]} ${this.told(line)}` :
+      `mote ${mote} ${this.programs[this.begins[mote]]}`;
+  }
+
   /** A word of a trace line, by its column. */
   field(i, name) {
     const {p, e} = this;
@@ -102,11 +110,12 @@ export class Run {
     return `${at} ${this.packetSender[k]} ${this.packetNumber[k]} ${this.packetValue[k]}${copies.join('')}`;
   }
 
-  /** The packet of a sender by its number, or -1. */
+  /** The packet of a sender by its number, or -1; and all packets of a sender. */
   packetOf(sender, number) {
     const place = this.sentStart[sender] + number;
     return place < this.sentStart[sender + 1] ? this.sentPackets[place] : -1;
   }
+  packetsOf(sender) { return [...this.sentPackets.subarray(this.sentStart[sender], this.sentStart[sender + 1])]; }
 
   /** The copy of a packet for a mote, or -1. */
   copyFor(k, mote) {
@@ -120,9 +129,9 @@ export class Run {
   /** The lines of the turn that a line belongs to: from, to. */
   turn(line, mote) { return [this.lineAt(mote, this.at[line]), this.lineAt(mote, this.at[line] + 1)]; }
 
-  /** The line at which an event was posted, or -1. */
-  postOf(mote, serial) {
-    const place = this.postStart[mote] + serial;
-    return place < this.postStart[mote + 1] ? this.postLines[place] : -1;
+  /** The line of a mote at a moment with these words, or -1. */
+  find({mote, at, words}) {
+    return mote < this.begins.length ? numbers(this.lineAt(mote, at), this.lineAt(mote, at + 1)).find(i =>
+      this.words(i) === words) ?? -1 : -1;
   }
 }

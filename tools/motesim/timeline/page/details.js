@@ -1,23 +1,26 @@
-// @ts-check
 // The selection: its lines of the report, and related ones. Each line is a button that selects that line.
-import {COLLIDE, DEAF, DROP, LOST, POST, RECV, SEND, TAKE, numbers} from './data.js';
-import {byId, element, lineButton, list, makeButton, withPlaces} from './dom.js';
+import {BOOTS, COLLIDE, DEAF, DROP, LOST, RECV, SEND, TAKE, numbers} from './data.js';
+import {byId, count, element, lineButton, list, makeButton, withPlaces} from './dom.js';
 import {redraw} from './draw.js';
 import {FATE_WORDS, MEDIUM, arrivalOf} from './index.js';
 import {SMALL_LANE} from './layout.js';
-import {stateInWords} from './near.js';
 import {setNow} from './play.js';
 import {choose, page} from './stage.js';
 import {revealMoment} from './time.js';
-import {count} from './words.js';
 
 const MOST_LISTED = 120, LAST_LINES = 40, MOST_NAMED = 30;
 
-function traceButton(pane, line, what = '') {
-  const {run} = pane;
-  return lineButton(`line ${run.numberOf(line, run.moteOf(line))}`, `${run.at[line]} ${run.told(line)}`, what,
-    page.chosen.line === line, () => chooseLine(pane, line, true));
+/** A row of the report as a button that selects it, with a remark; another text stands for that of the row. A text
+ * about no row stays as it is. */
+export function rowButton(pane, row, remark = '', text = row ? pane.run.rowText(row) : '') {
+  if (!row) return element('span', '', withPlaces(text));
+  const {line, mote} = page.chosen, isChosen = page.chosen.pane === pane && line >= 0 &&
+    row === pane.run.numberOf(line, mote);
+  return lineButton(`line ${row}`, text, remark, isChosen, () => chooseRow(pane, row));
 }
+
+const traceButton = (pane, line, remark = '') => rowButton(pane, pane.run.numberOf(line, pane.run.moteOf(line)),
+  remark);
 
 export function selectNothing() {
   choose({});
@@ -50,12 +53,11 @@ export function chosenInWords() {
 
 /** Selects the same in the run that a pane shows now; otherwise the same copy or the mote, if that run has it. */
 export function chooseAgain(pane, {mote, at = 0, words = '', sender = -1, number = 0}) {
-  const {run} = pane;
+  const {run} = pane, line = words ? run.find({mote, at, words}) : -1;
   if (mote >= run.begins.length) return selectNothing();
-  for (let i = run.lineAt(mote, at); words && i < run.lineAt(mote, at + 1); i++) {
-    if (run.words(i) === words) return chooseLine(pane, i);
-  }
-  const k = sender >= 0 && sender < run.begins.length ? run.packetOf(sender, number) : -1, copy = k >= 0 ? run.copyFor(k, mote) : -1;
+  if (line >= 0) return chooseLine(pane, line);
+  const k = sender >= 0 && sender < run.begins.length ? run.packetOf(sender, number) : -1,
+    copy = k >= 0 ? run.copyFor(k, mote) : -1;
   if (copy >= 0) chooseCopy(pane, k, copy); else chooseMote(pane, mote);
 }
 
@@ -69,7 +71,8 @@ function select(pane, it, show) {
     if (show) revealMoment(moment);
   }
   if (show) pane.reveal(mote);
-  const parts = [...page.panes.length > 1 ? [element('p', `In ${run.name}:`)] : [], element('p', '', actionsOf(pane, line))];
+  const parts = [...page.panes.length > 1 ? [element('p', `In ${run.name}:`)] : [],
+    element('p', '', actionsOf(pane, line))];
   if (k >= 0) parts.push(...packetParts(pane, k));
   if (line >= 0) parts.push(...eventParts(pane, line, mote), ...turnParts(pane, line, mote, k));
   else if (k < 0) parts.push(...moteParts(pane, mote));
@@ -82,15 +85,15 @@ function select(pane, it, show) {
 
 /** The buttons for what is selected. */
 function actionsOf(pane, line) {
-  const why = () => makeButton('Why is this line here?', () => page.askWhy(pane, line), {id: 'ask-why', title: 'The chain of its causes (W)'});
+  const why = () => makeButton('Why is this line here?', () => page.askWhy(pane, line),
+    {id: 'ask-why', title: 'The chain of its causes (W)'});
   return [...line >= 0 ? [why(), ...page.expectsOf?.(pane, line) || []] : [], ...page.faultsOf?.(pane) || []];
 }
 
 /** A packet: the medium's line, the send, and each copy with its fate. */
 function packetParts(pane, k) {
   const {run} = pane, sender = run.packetSender[k], send = run.sendLine[k], copies = run.copiesOf(k);
-  const items = [lineButton(`line ${run.numberOfPacket(k)}`, run.packetText(k), 'in the log of the medium', false,
-    () => send >= 0 && chooseLine(pane, send, true))];
+  const items = [rowButton(pane, run.numberOfPacket(k), 'in the log of the medium')];
   if (send >= 0) items.push(traceButton(pane, send, `sent by mote ${sender}`));
   items.push(...copies.slice(0, MOST_LISTED).map(copy => copyButton(pane, k, copy)));
   if (copies.length > MOST_LISTED) items.push(element('span', `and ${copies.length - MOST_LISTED} more copies`));
@@ -108,10 +111,10 @@ function copyButton(pane, k, copy) {
 /** An event, from its post to its takes or drop. */
 function eventParts(pane, line, mote) {
   const {run} = pane, {at, kind, x} = run, serial = x[line], isOf = one => kind[one] === TAKE || kind[one] === DROP;
-  const post = isOf(line) || kind[line] === POST ? run.postOf(mote, serial) : -1, end = run.traceStart[mote + 1];
+  const post = run.posts[line], end = run.traceStart[mote + 1];
   if (post < 0) return [];
   const items = [traceButton(pane, post, 'posted')];
-  for (let i = post + 1; i < end && !(isOf(i) && x[i] > serial); i++) {
+  for (let i = post + 1; i < end && kind[i] !== BOOTS && !(isOf(i) && x[i] > serial); i++) {
     if (isOf(i) && x[i] === serial) items.push(traceButton(pane, i, kind[i] === TAKE ?
       `taken ${count(at[i] - at[post], 'moment')} later` : 'dropped: the process isn\'t started'));
   }
@@ -128,7 +131,6 @@ function turnParts(pane, line, mote, k) {
     list('ol', lines.map(it => traceButton(pane, it,
       run.silent[it] ? 'a timer that sends in other runs, and not in this one' : ''))),
     element('p', to - from > lines.length ? `${to - from - lines.length} lines of this turn are not listed.` : ''),
-    element('p', stateInWords(run, mote, line)),
     element('p', '', [makeButton(`All of mote ${mote}`, () => chooseMote(pane, mote))])];
 }
 
@@ -137,11 +139,13 @@ function moteParts(pane, mote) {
   const {run} = pane, hears = run.hearers[mote], first = run.traceStart[mote];
   const place = run.places ? `It is at ${run.places[mote].join(', ')}. ` : '';
   const which = hears.length <= MOST_NAMED ? `: ${hears.join(', ')}` : '';
-  const behind = Math.max(run.lineAt(mote, Math.floor(page.play.now) + 1), Math.min(first + 1, run.traceStart[mote + 1]));
+  const behind = Math.max(run.lineAt(mote, Math.floor(page.play.now) + 1),
+    Math.min(first + 1, run.traceStart[mote + 1]));
   const lines = numbers(Math.max(first, behind - LAST_LINES), behind);
   return [element('h2', `Mote ${mote}, which runs ${run.programs[run.begins[mote]]}`),
     element('p', place + (hears.length ? `It hears ${count(hears.length, 'mote')}${which}.` : 'It hears nobody.')),
-    element('h3', `Its last lines up to moment ${Math.floor(page.play.now)}`), list('ol', lines.map(line => traceButton(pane, line)))];
+    element('h3', `Its last lines up to moment ${Math.floor(page.play.now)}`),
+      list('ol', lines.map(line => traceButton(pane, line)))];
 }
 
 /** Selects the line before or after the selected one (`by`), or the same moment some `lanes` below; if nothing is
@@ -156,10 +160,6 @@ export function walk(pane, by, lanes = 0) {
   const line = isHere ? chosen.line + by : run.lineAt(mote, Math.floor(moment));
   chooseLine(pane, Math.max(first, Math.min(end - 1, line)), true);
 }
-
-/** A text about a row of the report, as a button that selects it; as it is, if it is about none. */
-export const rowButton = (pane, row, text) => row ? lineButton(`line ${row} of the report`, text, '', false,
-  () => chooseRow(pane, row)) : element('span', '', withPlaces(text));
 
 /** Selects a row of the report: a line of a trace, a mote by its head, or the send of a packet. */
 export function chooseRow(pane, row) {

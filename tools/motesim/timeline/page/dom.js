@@ -1,6 +1,16 @@
-// @ts-check
-// Elements of the page.
+// Elements of the page, and numbers with their nouns.
 import {page} from './stage.js';
+
+const FORM = new Intl.NumberFormat('en');
+
+/** A number with commas between thousands. */
+export const digits = number => FORM.format(number);
+
+/** A number with its noun, in the plural unless it is 1: `3 packets`, `1 copy`, `2 copies`. */
+export function count(number, noun) {
+  const plural = number === 1 ? noun : noun.endsWith('y') ? `${noun.slice(0, -1)}ies` : `${noun}s`;
+  return `${digits(number)} ${plural}`;
+}
 
 /** @type {(id: string) => any} */
 export const byId = id => document.getElementById(id);
@@ -26,6 +36,11 @@ export function table(headings, rows) {
 
 export const makeButton = (name, act, its = {}) =>
   element('button', name, [], {type: 'button', onclick: act, ...its});
+
+/** Makes the buttons with these ids do something. @param {Record<string, () => any>} does */
+export function onClick(does) {
+  for (const [id, act] of Object.entries(does)) byId(id).addEventListener('click', act);
+}
 
 export function onSubmit(id, act) {
   byId(id).addEventListener('submit', event => {

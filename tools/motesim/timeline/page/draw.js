@@ -1,11 +1,9 @@
-// @ts-check
 // Draws all panes and maps, and says in words what the panes show.
 import {moveCursor} from './axis.js';
-import {byId} from './dom.js';
+import {byId, count, digits} from './dom.js';
 import {drawLanesOf} from './lanes.js';
 import {page} from './stage.js';
 import {momentsInWords} from './time.js';
-import {count, digits} from './words.js';
 
 /** Draws parts before the browser shows the next picture, however often it is called. */
 function want(...parts) {
@@ -44,12 +42,9 @@ function draw() {
 function drawnInWords({drawn, arrows, lanes: [from, to], run, number}, isOneOfTwo) {
   const motes = run.begins.length, where = !isOneOfTwo ? '' : number ? 'Below: ' : 'Above: ';
   const which = to - from >= motes ? `All ${count(motes, 'lane')}` : `${to - from} of ${count(motes, 'lane')}`;
-  const words = [`${where}${which}, ${count(drawn.lines, 'line')} of traces.`];
-  if (drawn.asColours) words.push('Colours instead of forms: T makes lanes taller.');
-  for (const [name, rest] of Object.entries({'Lines found, without rings': drawn.rings,
-    'Marks not drawn': drawn.thinned + drawn.low, 'Values not drawn': drawn.unlabelled,
-    'Copies without arrows': drawn.copies - arrows.length})) {
-    if (rest > 0) words.push(`${name}: ${digits(rest)}; zoom in.`);
-  }
-  return words.join(' ');
+  const left = {'Lines found, without rings': drawn.rings, 'Marks not drawn': drawn.thinned + drawn.low,
+    'Values not drawn': drawn.unlabelled, 'Copies without arrows': drawn.copies - arrows.length};
+  return [`${where}${which}, ${count(drawn.lines, 'line')} of traces.`,
+    ...drawn.asColours ? ['Colours instead of forms: T makes lanes taller.'] : [],
+    ...Object.entries(left).flatMap(([name, rest]) => rest > 0 ? `${name}: ${digits(rest)}; zoom in.` : [])].join(' ');
 }

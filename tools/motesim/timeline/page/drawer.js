@@ -1,17 +1,20 @@
-// @ts-check
-// What all pages have besides the lanes: the log, sums and forms of a run; and the card of a selection, beside what was
-// clicked.
-import {byId} from './dom.js';
+// What all pages have besides the lanes: panels below them, of which one may be open; the card of a selection, beside
+// what was clicked; and the borders between the parts of the page.
+import {byId, stored} from './dom.js';
 import {redraw} from './draw.js';
 import {drawLegend} from './forms.js';
 import {beginLog} from './log.js';
-import {beginSplitters} from './splitters.js';
 import {page} from './stage.js';
 import {fillSums} from './sums.js';
-import {beginTabs} from './tabs.js';
 import {closeWhy} from './why.js';
 
 const EDGE = 8, AWAY = 24, BESIDE = 420, ABOVE = 160;
+/** The share of each part at first, and at a point of the window. */
+const SHARES = {left: 0.36, map: 0.42, drawer: 0.27}, KEY = 'motesim sizes', STEP = 0.02;
+const shareAt = {left: x => x / innerWidth, drawer: (x, y) => 1 - y / innerHeight, map(x, y) {
+  const {top, height} = byId('see').getBoundingClientRect();
+  return (y - top) / height;
+}};
 
 /** Shows the card at a place of the window, with room for all that it may show; without one, beside the lanes' right
  * end. */
@@ -42,7 +45,8 @@ function beginCard() {
     closeWhy();
   });
   // (in a narrow window it covers the text)
-  byId('write').addEventListener('pointerdown', () => { if (matchMedia('(max-width: 900px)').matches) card.hidden = true; });
+  byId('write').addEventListener('pointerdown',
+    () => { if (matchMedia('(max-width: 900px)').matches) card.hidden = true; });
   document.addEventListener('keydown', ({key, target}) => {
     if (key === 'Escape') card.hidden = true;
     const {line} = page.chosen, isWhy = 'wW'.includes(key) && line >= 0 && card.contains(byId('why-chain'));
@@ -57,16 +61,73 @@ export function showSums() {
   if (page.panes.length && !byId('sums').hidden) fillSums(byId('sums'), page.panes[0].run);
 }
 
-export function beginDrawer() {
-  beginCard();
-  beginLog();
-  beginSplitters();
-  beginTabs('tabs', open => {
-    for (const panel of document.querySelectorAll('.panel')) byId(panel.id).hidden = `tab-${panel.id}` !== open;
+/** Makes the tabs work by mouse and by arrow keys: at most one is open. */
+function beginTabs() {
+  const tabs = [...byId('tabs').querySelectorAll('[role="tab"]')].filter(it => it.offsetParent);
+  const choose = tab => {
+    const isOpen = tab.getAttribute('aria-selected') === 'true';
+    for (const other of tabs) {
+      other.setAttribute('aria-selected', String(other === tab && !isOpen));
+      other.tabIndex = other === tab ? 0 : -1;
+    }
+    for (const panel of document.querySelectorAll('.panel')) byId(panel.id).hidden = isOpen ||
+      tab.id !== `tab-${panel.id}`;
     showSums();
     drawLegend();
     redraw();
     // (in a narrow window the panel is below all else)
-    if (open) byId('drawer').scrollIntoView({block: 'nearest'});
-  }, true);
+    if (!isOpen) byId('drawer').scrollIntoView({block: 'nearest'});
+  };
+  tabs.forEach((tab, i) => {
+    tab.addEventListener('click', () => choose(tab));
+    tab.addEventListener('keydown', event => {
+      const by = event.key === 'ArrowRight' ? 1 : event.key === 'ArrowLeft' ? -1 : 0;
+      if (!by) return;
+      event.preventDefault();
+      event.stopPropagation();
+      tabs[(i + by + tabs.length) % tabs.length].focus();
+    });
+  });
+}
+
+export function showTab(name) { if (byId(name).hidden) byId(`tab-${name}`).click(); }
+
+/** Lets the borders between the parts of the page be dragged, or moved by arrow keys; two clicks move one back. */
+function beginSplitters() {
+  const kept = {...SHARES, ...stored(it => JSON.parse(it.getItem(KEY) || '{}'))};
+  for (const border of /** @type {NodeListOf<HTMLElement>} */ (document.querySelectorAll('[role="separator"]'))) {
+    const name = border.dataset.of || '', isDrawer = name === 'drawer';
+    const set = share => {
+      kept[name] = Math.min(0.85, Math.max(0.1, share));
+      document.documentElement.style.setProperty(`--${name}`, kept[name]);
+      border.setAttribute('aria-valuenow', String(Math.round(kept[name] * 100)));
+    };
+    const keep = () => stored(it => it.setItem(KEY, JSON.stringify(kept)));
+    set(kept[name]);
+    border.addEventListener('pointerdown', ({pointerId}) => border.setPointerCapture(pointerId));
+    border.addEventListener('pointermove', ({buttons, clientX, clientY}) => {
+      if (buttons) set(shareAt[name](clientX, clientY));
+    });
+    border.addEventListener('pointerup', keep);
+    border.addEventListener('dblclick', () => {
+      set(SHARES[name]);
+      keep();
+    });
+    border.addEventListener('keydown', event => {
+      const by = {ArrowLeft: -STEP, ArrowRight: STEP, ArrowUp: isDrawer ? STEP : -STEP,
+        ArrowDown: isDrawer ? -STEP : STEP}[event.key];
+      if (!by) return;
+      event.preventDefault();
+      event.stopPropagation();
+      set(kept[name] + by);
+      keep();
+    });
+  }
+}
+
+export function beginDrawer() {
+  beginCard();
+  beginLog();
+  beginSplitters();
+  beginTabs();
 }

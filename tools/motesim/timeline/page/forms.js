@@ -1,4 +1,3 @@
-// @ts-check
 // The forms of lines and copies, each drawn around a point. No two differ only by colour.
 import {MEDIUM} from './index.js';
 
@@ -98,6 +97,7 @@ const FORMS = {
   start: [{lines: BRACKET, edge: 'run-ink', wide: 1.8}],
   leave: [{lines: END, edge: 'run-ink', wide: 1.8}],
   halt: [{lines: OCTAGON, fill: 'trouble'}, {lines: [-0.8, 0, 0.8, 0], edge: 'paper', wide: 2}],
+  boots: [{circle: 1.2, fill: 'paper', edge: 'run-ink'}, {lines: UP.map(it => 0.6 * it), fill: 'run-ink'}],
   run: [{lines: [-1.8, -1, 1.8, -1, 1.8, 1, -1.8, 1], fill: 'run'}],
   cross: CROSS,
   bar: [{lines: [0, -1, 0, 1], edge: 'quiet', wide: 2}],

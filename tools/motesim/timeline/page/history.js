@@ -1,4 +1,3 @@
-// @ts-check
 // The texts that undo and redo lead to, each with its run.
 
 /** Milliseconds within which what is typed, or moved by keys, belongs to one step; and the bytes of the runs that are

@@ -1,16 +1,16 @@
-// @ts-check
 // Facts that follow from a run's lines, computed once when it is opened: the fate of each copy, which lines belong
 // together, which motes hear each other, and what each island sends.
-import {COLLIDE, DEAF, DROP, FULL, HALT, LOST, POST, PRINT, RECV, SEND, START, TAKE} from './data.js';
+import {BOOTS, COLLIDE, DEAF, DROP, FULL, HALT, LOST, POST, PRINT, RECV, SEND, START, TAKE} from './data.js';
 
 export const FATE_WORDS = ['received and handed on', 'received, but the event queue was full',
-  'received, but the program has no receiver', 'overflowed: eight packets were waiting already', 'collided with others',
+  'received, but the program has no receiver', 'overflowed: eight packets were waiting already',
+    'collided with others',
   'lost on the way', 'arrived at a mote that had halted', 'would arrive after the end', 'received, but not handed on'];
 export const [HANDED, REFUSED, UNHEARD, RING, COLLIDED, MEDIUM, GONE, LEFT, RECEIVED] = FATE_WORDS.keys();
 const OF_ARRIVAL = {[RECV]: RECEIVED, [LOST]: RING, [COLLIDE]: COLLIDED};
 const OF_HANDING = {[POST]: HANDED, [FULL]: REFUSED, [DEAF]: UNHEARD};
-/** The most islands that are shown apart, and the most pieces of time whose sends are counted. */
-const MOST_GROUPS = 8, MOST_PIECES = 2048;
+/** The most islands that are shown apart. */
+const MOST_GROUPS = 8;
 
 /** Lets the browser draw and react between two pieces of long work. */
 export const breathe = () => new Promise(done => setTimeout(done));
@@ -58,21 +58,22 @@ function sums(numbers) {
   return found;
 }
 
-/** Finds the post of each event, and copies its event and word to its take or drop. */
+/** Notes the post of each post, take and drop; a take and a drop have the event and the word of theirs. In each life
+ * of a mote, posts are numbered from 0. */
 function indexEvents(run) {
-  const {kind, x, e, w, traceStart} = run, motes = run.begins.length, posts = [];
-  run.postStart = new Uint32Array(motes + 1);
-  for (let m = 0; m < motes; m++) {
+  const {kind, x, e, w, traceStart} = run;
+  run.posts = new Int32Array(run.count).fill(-1);
+  for (let m = 0; m < run.begins.length; m++) {
+    let posts = [];
     for (let i = traceStart[m]; i < traceStart[m + 1]; i++) {
-      if (kind[i] === POST) posts.push(i);
+      if (kind[i] === BOOTS) posts = [];
+      else if (kind[i] === POST) run.posts[i] = posts[posts.push(i) - 1];
       else if (kind[i] === TAKE || kind[i] === DROP) {
-        const post = posts[run.postStart[m] + x[i]];
+        const post = run.posts[i] = posts[x[i]];
         [e[i], w[i]] = [e[post], w[post]];
       }
     }
-    run.postStart[m + 1] = posts.length;
   }
-  run.postLines = Uint32Array.from(posts);
 }
 
 /** Finds the fate of each copy in the trace of its receiver. */
@@ -164,27 +165,23 @@ function findSilence(run) {
 }
 
 /** Notes the moments at which anything happens; the prints of each mote, and the moment at which it halted; and the
- * sends and silences of each island, by piece of time. */
+ * moments of the sends and silences of each island. */
 function sumUp(run) {
   const {kind, at, traceStart, silent} = run;
-  run.pieces = Math.min(run.end + 1, MOST_PIECES);
-  run.piece = (run.end + 1) / run.pieces;
   run.busy = new Uint8Array(run.end + 1);
   run.prints = Array.from(run.begins, () => []);
   run.haltAt = new Float64Array(run.begins.length).fill(Infinity);
   for (const group of run.groups) {
-    Object.assign(group, {sends: new Uint32Array(run.pieces), silences: new Uint32Array(run.pieces)});
+    const sends = [], silences = [];
     for (const m of group.motes) {
       for (let i = traceStart[m]; i < traceStart[m + 1]; i++) {
-        const piece = Math.floor(at[i] / run.piece);
         run.busy[at[i]] = 1;
         if (kind[i] === PRINT) run.prints[m].push(i);
-        else if (kind[i] === HALT) run.haltAt[m] = at[i];
-        else if (kind[i] === SEND) group.sends[piece]++;
-        else if (silent[i]) group.silences[piece]++;
+        else if (kind[i] === HALT || kind[i] === BOOTS) run.haltAt[m] = kind[i] === HALT ? at[i] : Infinity;
+        else if (kind[i] === SEND) sends.push(at[i]);
+        else if (silent[i]) silences.push(at[i]);
       }
     }
-    group.sent = group.sends.reduce((sum, it) => sum + it, 0);
-    group.quiet = group.silences.reduce((sum, it) => sum + it, 0);
+    Object.assign(group, {sends: Uint32Array.from(sends).sort(), silences: Uint32Array.from(silences).sort()});
   }
 }

@@ -1,8 +1,7 @@
-// @ts-check
 // The lanes of a pane: a mark for each line. Marks closer than a pixel or two are thinned, and counted.
 import {drawArrows, drawChosen} from './arrows.js';
 import {drawAxis, drawBands, drawGrid, drawHeads, drawNames} from './axis.js';
-import {HALT, KINDS, LEAVE, POST, PRINT, RECV, SEND, START, TAKE, isCall} from './data.js';
+import {BOOTS, HALT, KINDS, LEAVE, POST, PRINT, RECV, SEND, START, TAKE, isCall} from './data.js';
 import {box, colours, drawPath, ring, setFont, stampOf, stroke, write} from './forms.js';
 import {APART, AXIS, FULL_LANE, SMALL_LANE} from './layout.js';
 import {drawOverview} from './overview.js';
@@ -42,7 +41,8 @@ function drawLabels({pane, labels, marks}) {
   for (const {text, x, y, colour, behind} of labels) {
     const end = x + text.length * 6.4, isName = colour === 'run-ink';
     let isFree = x <= pane.width && x >= last;
-    for (let i = behind; isFree && i < marks.length && marks[i] < end; i += 2) isFree = Math.abs(marks[i + 1] - y) >= 9;
+    for (let i = behind; isFree && i < marks.length &&
+      marks[i] < end; i += 2) isFree = Math.abs(marks[i + 1] - y) >= 9;
     if (!isFree) {
       drawn.unlabelled += isName ? 0 : 1;
       continue;
@@ -93,6 +93,7 @@ function drawLine(lane, line, x) {
   else if (putMark(lane, form, x, y, kind === PRINT && !isFull ? Math.min(4, r) : r, line) && pane.lane >= 14) {
     if (kind === PRINT) note({text: String(run.w[line]), x: x + r + 2, colour: 'print'});
     if (kind === HALT) note({text: 'halts', x: x + r * 1.6 + 3, colour: 'trouble'});
+    if (kind === BOOTS) note({text: 'boots', x: x + r * 1.6 + 3, colour: 'ink'});
   }
   if (isFull && form === 'silent') putMark(lane, 'timer', x, pane.lineY(TAKE, mote), r, line);
   if (lane.names.has(line)) note(lane.names.get(line));
@@ -114,20 +115,22 @@ function drawLane(pane, mote) {
   if (x < pane.width) drawPath(pane.context, [x, y, pane.x(run.end + 1), y], 'trouble', 1, 0.5, [2, 4]);
 }
 
-/** Draws rings around the lines that a search has found, unless these are a great many. */
-function drawFound(pane) {
-  const {context: c, run, gutter, width, lane, drawn, number} = pane, found = page.logged.rings[number] || [];
-  if (found.length > MOST_RINGS) drawn.rings = found.length;
-  for (const line of drawn.rings ? [] : found) {
-    const mote = run.moteOf(line), [x, y] = pane.placeOf(line, mote);
-    if (!pane.sees(mote) || x < gutter || x > width) continue;
-    ring(c, x, y, Math.max(2, Math.min(8, lane * 0.4)));
-    stroke(c, 'mark', 2);
-  }
+/** Draws a ring at a place of a mote's lane, if it is in view. */
+export function ringAt(pane, mote, [x, y], colour = 'mark') {
+  if (!pane.sees(mote) || x < pane.gutter || x > pane.width) return;
+  ring(pane.context, x, y, Math.max(2, Math.min(8, pane.lane * 0.4)));
+  stroke(pane.context, colour, 2.2);
 }
 
-/** Draws the lanes of a pane, with all that is around and over them. Lanes that are too low for forms, or have too many
- * lines, are drawn as colours. */
+/** Draws rings around the lines that a search has found, unless these are a great many. */
+function drawFound(pane) {
+  const {run, drawn, number} = pane, found = page.logged.rings[number] || [];
+  if (found.length > MOST_RINGS) drawn.rings = found.length;
+  for (const line of drawn.rings ? [] : found) ringAt(pane, run.moteOf(line), pane.placeOf(line, run.moteOf(line)));
+}
+
+/** Draws the lanes of a pane, with all that is around and over them. Lanes that are too low for forms, or have too
+ * many lines, are drawn as colours. */
 export function drawLanesOf(pane) {
   const {context: c, gutter, width, height} = pane, [from, to] = pane.lanesInView();
   const motes = pane.order.slice(from, to), lines = motes.reduce((sum, mote) => {

@@ -1,4 +1,3 @@
-// @ts-check
 // A pane: the lanes of a run, with the places of its motes, moments and lines.
 import {PRINT, RECV, SEND} from './data.js';
 import {page} from './stage.js';
@@ -13,7 +12,7 @@ export const TALL_LANE = 150;
 /** From this scale on, the lines of a moment are drawn apart. */
 export const APART = 14;
 /** The rows of lines in a lane by their kinds; and those in low lanes. */
-const ROWS = [0.5, 0.5, 0.72, 0.72, 0.88, 0.88, 0.5, 0.5, 0.15, 0.3, 0.3, 0.3, 0.3, 0.5];
+const ROWS = [0.5, 0.5, 0.72, 0.72, 0.88, 0.88, 0.5, 0.5, 0.15, 0.3, 0.3, 0.3, 0.3, 0.5, 0.5];
 const LOW_ROWS = {[RECV]: 0.8, [PRINT]: 0.3};
 
 /** How far a point is from a line between two points. */
@@ -38,8 +37,6 @@ export class Pane {
   canvas = /** @type {any} */ (null);
   context = /** @type {any} */ (null);
   dots = 1;
-  /** What `overview.js` keeps of the last picture. */
-  kept = /** @type {any} */ ({});
   top = 0;
   lane = 20;
   gutter = 70;

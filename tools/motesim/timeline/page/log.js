@@ -1,41 +1,35 @@
-// @ts-check
 // The tab *Log*: the lines of all motes in order of time, and steps along them. A search, of words that must all fit
 // one line, leaves the lines that fit it, which have rings on the lanes.
-import {ALL, DROP, FIELDS, KINDS, SEND, TAKE, lowerBound} from './data.js';
+import {DROP, FIELDS, KINDS, SEND, TAKE, lowerBound} from './data.js';
 import {chooseLine} from './details.js';
-import {byId, element, lineButton, onSubmit} from './dom.js';
+import {byId, count, digits, element, lineButton, onSubmit} from './dom.js';
 import {redraw} from './draw.js';
 import {MEDIUM} from './index.js';
 import {page} from './stage.js';
-import {count, digits} from './words.js';
 
 const MOST_LISTED = 200;
-/** Whether lines of each kind have a process, a sender, an event and a value; a take and a drop have those of the post.
- */
-const [HAS_PROCESS, HAS_SENDER, HAS_EVENT, HAS_VALUE] = [...'psew'].map(name => FIELDS.map((its, kind) =>
-  its.includes(name) || (kind === TAKE || kind === DROP) && 'ew'.includes(name)));
+/** The names that a search finds a line by: its kind, process, event and value; a take and a drop have those of the
+ * post. */
+function namesOf(run, i, mote) {
+  const kind = run.kind[i], name = KINDS[kind], isLost = copy => run.copyFate[copy] === MEDIUM;
+  const fields = [...FIELDS[kind], ...kind === TAKE || kind === DROP ? ['e', 'w'] : []].filter(it =>
+    'pew'.includes(it));
+  return [name, `${name}s`, ...fields.map(it => String(run.field(i, it))), ...run.silent[i] ? ['silent'] : [],
+    ...kind === SEND && run.copiesOf(run.packetOf(mote, run.x[i])).some(isLost) ? ['lost'] : []];
+}
 
 /** The test that a word is, as a function of a line and its mote, with how many words belong to it; null if the word
  * means nothing in this run.
  * @param {any} run @param {string} word @param {string} next
  * @returns {[((line: number, mote: number) => boolean)|null, number]} */
 function asks(run, word, next) {
-  const {kind, e, w, p, at, silent} = run, number = /^\d+$/.test(next) ? Number(next) : -1;
+  const number = /^\d+$/.test(next) ? Number(next) : -1, span = word === 'at' && /^(\d+)(?:\.\.(\d+))?$/.exec(next);
   if (word === 'mote' && number >= 0) return [(i, mote) => mote === number, 2];
-  if (word === 'from' && number >= 0) return [i => HAS_SENDER[kind[i]] && p[i] === number, 2];
-  const span = word === 'at' && /^(\d+)(?:\.\.(\d+))?$/.exec(next);
-  if (span) return [i => at[i] >= Number(span[1]) && at[i] <= Number(span[2] || span[1]), 2];
-  if (/^\d+$/.test(word)) return [i => HAS_VALUE[kind[i]] && w[i] === Number(word), 1];
-  if (word === 'silent') return [i => silent[i] === 1, 1];
-  const tests = /** @type {((line: number, mote: number) => boolean)[]} */ (word === 'timer' ? [() => false] : []);
-  const asKind = KINDS.findIndex(it => word === it || word === `${it}s`);
-  const asProcess = word === 'all' ? ALL : run.processes.indexOf(word), asEvent = run.events.indexOf(word);
-  if (asKind >= 0) tests.push(i => kind[i] === asKind);
-  if (word === 'lost') tests.push((i, mote) => kind[i] === SEND &&
-    run.copiesOf(run.packetOf(mote, run.x[i])).some(copy => run.copyFate[copy] === MEDIUM));
-  if (asProcess >= 0) tests.push(i => HAS_PROCESS[kind[i]] && p[i] === asProcess);
-  if (asEvent >= 0) tests.push(i => HAS_EVENT[kind[i]] && e[i] === asEvent);
-  return [tests.length ? (i, mote) => tests.some(test => test(i, mote)) : null, 1];
+  if (word === 'from' && number >= 0) return [i => FIELDS[run.kind[i]].includes('s') && run.p[i] === number, 2];
+  if (span) return [i => run.at[i] >= Number(span[1]) && run.at[i] <= Number(span[2] || span[1]), 2];
+  const names = [...KINDS, ...KINDS.map(it => `${it}s`), ...run.processes, ...run.events, 'all', 'timer', 'silent',
+    'lost'];
+  return [/^\d+$/.test(word) || names.includes(word) ? (i, mote) => namesOf(run, i, mote).includes(word) : null, 1];
 }
 
 /** The lines of a run that fit all words of a text; or null, with the word that means nothing in this run. */

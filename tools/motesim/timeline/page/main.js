@@ -1,8 +1,8 @@
-// @ts-check
 // The page of runs: shows them, and reacts to mouse, keys and buttons.
 import {chooseAgain, chooseCopy, chooseLine, chooseMote, chosenInWords, selectNothing, walk} from './details.js';
-import {byId, element} from './dom.js';
+import {byId, count, element} from './dom.js';
 import {drawAll, redraw, redrawLanes} from './draw.js';
+import {showTab} from './drawer.js';
 import {drawLegend, readColours} from './forms.js';
 import {Pane} from './layout.js';
 import {walkLog} from './log.js';
@@ -11,10 +11,8 @@ import {itemAt, itemInWords} from './near.js';
 import {chooseSpeed, followNow, setNow, startPlaying, step, stopPlaying} from './play.js';
 import {offerTips, onPointer} from './pointer.js';
 import {page} from './stage.js';
-import {showTab} from './tabs.js';
 import {isWhole, keepTime, leastScale, showTime, zoomTime} from './time.js';
 import {askWhy, closeWhy, drawChain, drawChainOnMap} from './why.js';
-import {count} from './words.js';
 
 const {panes, maps, time, play, chosen} = page;
 const TITLE = 28, LEAST_PANE = 150, SHARE = 0.2, LEAST_STEP = 40;
@@ -126,7 +124,8 @@ function listenTo(pane) {
       show();
     },
   });
-  // (the wheel zooms time, pans with Shift, changes the height of lanes with Ctrl, and goes up and down over the names)
+  // (the wheel zooms time, pans with Shift, changes the height of lanes with Ctrl, and goes up and down over the
+  // names)
   canvas.addEventListener('wheel', event => {
     event.preventDefault();
     const by = event.deltaMode === 1 ? 30 : 1, dx = event.deltaX * by, dy = event.deltaY * by;
@@ -213,6 +212,7 @@ export function showRuns(runs) {
 /** Shows another run in a pane. Zoom, place and selection stay as far as they can. */
 export function showInstead(pane, run) {
   const wasWhole = isWhole(), {isFit} = pane, kept = chosenInWords();
+  closeWhy();
   pane.take(run);
   maps[pane.number].take(run);
   sayAbout();

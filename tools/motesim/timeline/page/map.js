@@ -1,8 +1,7 @@
-// @ts-check
 // The map of a run: motes at their places, who hears whom, which links lose packets, and the packets on their way.
 import {COLLIDE, DEAF, KINDS, LOST, RECV, SEND, lowerBound, numbers} from './data.js';
 import {chooseMote} from './details.js';
-import {byId} from './dom.js';
+import {byId, count} from './dom.js';
 import {redraw} from './draw.js';
 import {box, drawArrow, drawForm, drawPath, fill, ring, setFont, stampOf, stroke, write} from './forms.js';
 import {HANDED, MEDIUM, arrivalOf} from './index.js';
@@ -10,7 +9,6 @@ import {linkInWords, moteInWords} from './near.js';
 import {offerTips, onPointer} from './pointer.js';
 import {MapLayout} from './places.js';
 import {page} from './stage.js';
-import {count} from './words.js';
 
 const MOST_LINKS = 12000, MOST_FLYING = 4000;
 // The height of a label, and its distance from its link.

@@ -1,4 +1,3 @@
-// @ts-check
 // Opens the page of tools/timeline on the runs that it holds.
 import {chainOf} from './causes.js';
 import {Run, columnsIn} from './data.js';
@@ -49,7 +48,7 @@ function openAt({start, mote, note}) {
 
 /** The reason of a note, and the lines about it. */
 function partsOf({why, lines}, pane) {
-  return [element('p', why), list('ul', lines.map(({text, row}) => rowButton(pane, row, text)))];
+  return [element('p', why), list('ul', lines.map(({text, row}) => rowButton(pane, row, '', text)))];
 }
 
 /** Shows a note, and its first line that the report has; or the last line of the mote before a missing one. */

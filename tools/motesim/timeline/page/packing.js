@@ -1,4 +1,3 @@
-// @ts-check
 // Bytes that are compressed and written in the letters of base64.
 
 /** Bytes that pass through a stream which packs or unpacks them. Fails if more than `most` come out.

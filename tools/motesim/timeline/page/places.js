@@ -1,4 +1,3 @@
-// @ts-check
 // The places of a run's motes on the map.
 import {lowerBound} from './data.js';
 import {awayFrom, nearest} from './layout.js';

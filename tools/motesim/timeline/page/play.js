@@ -1,4 +1,3 @@
-// @ts-check
 // The moment that the maps show, and playing from moment to moment.
 import {lowerBound} from './data.js';
 import {byId} from './dom.js';
@@ -75,6 +74,7 @@ function playOn(now) {
 
 /** Chooses the speed that plays the whole run in about 25 seconds. */
 export function chooseSpeed() {
-  const {options} = byId('speed'), fitting = [...options].filter(it => Number(it.value) <= (page.time.end + 1) / WHOLE);
+  const {options} = byId('speed'), fitting = [...options].filter(it =>
+    Number(it.value) <= (page.time.end + 1) / WHOLE);
   byId('speed').value = (fitting.pop() || options[0]).value;
 }

@@ -1,4 +1,3 @@
-// @ts-check
 // The pointer on a picture: it drags and clicks, two fingers zoom, and a tip says what is there.
 import {byId} from './dom.js';
 

@@ -1,4 +1,3 @@
-// @ts-check
 // The state of a page: one object, of which each module reads and changes its part.
 
 import {History} from './history.js';
@@ -11,7 +10,7 @@ import {History} from './history.js';
  * @typedef {{run: (asked: any) => Promise<Answer>, stop: () => any, ask: (what: string, asked: any) => any,
  *   check: (text: string, claims: string[], options?: string[]) => Promise<any>, endSurvey: () => void,
  *   words?: any, mend?: (text: string, fault: any) => Promise<any>,
- *   expectations: (document: any, text: string) => Promise<any[]>, expect: (words: string) => Promise<string>}} Backend */
+ * expectations: (document: any, text: string) => Promise<any[]>, expect: (words: string) => Promise<string>, unexpect: (words: string) => Promise<void>}} Backend */
 
 const none = /** @type {any} */ (null), list = () => /** @type {any[]} */ ([]);
 const does = () => /** @type {((...its: any[]) => any)[]} */ ([]);
@@ -49,13 +48,12 @@ export const page = {
   mapOverlays: does(),
   followers: does(),
   /** What pages do in ways of their own: going to a line of the programs' file, a change of the text, finding a chain
-   * of causes, showing it, and making a scenario small. */
+   * of causes, and showing it. */
   goToLine: none,
   edit: none,
   chainOf: none,
   askWhy: none,
   askQuestion: none,
-  shrink: none,
   /** The buttons for a line that may be expected, and those for a fault of what is selected; and what makes a fault a
    * part of the run, or takes it away. */
   expectsOf: none,
@@ -63,24 +61,28 @@ export const page = {
   toggleFault: none,
 
   /** What must hold, with its verdicts, for which text; how long one run of them took; the faults that name no copy;
-   * what the surveys of single faults and of pairs found; the sentence about them; whether the page goes to the next
-   * break; and the words of what needn't hold with faults, and whether the reader has chosen them. */
-  checks: {items: list(), text: '', took: 0, unused: list(), survey: none, pairs: none, words: '', is: '', follows: false,
-    without: new Set(), chosen: false},
+   * what the surveys of single faults and of pairs found, and the faults that alone break something; the sentence
+   * about all this; whether the page goes to the next break; and the words of what needn't hold with faults, and
+   * whether the reader has chosen them. */
+  checks: {items: list(), text: '', took: 0, unused: list(), survey: none, pairs: none, weak: list(), words: '',
+    is: '',
+    follows: false, without: new Set(), chosen: false},
 
   /** Functions that are called when the results that are shown become those of an earlier text; when a run is shown,
-   * its checks are decided, and faults are surveyed; when a document was opened, or is shown again (`isAgain`); when its text is kept; and when the
-   * reader leaves the page. */
-  reactions: {outdated: does(), ran: does(), judged: does(), surveyed: does(), opened: does(), kept: does(), left: does()},
+   * its checks are decided, and faults are surveyed; when a document was opened, or is shown again (`isAgain`); when
+   * its text is kept; and when the reader leaves the page. */
+  reactions: {outdated: does(), ran: does(), judged: does(), surveyed: does(), opened: does(), kept: does(),
+    left: does()},
   /** The state that is shown, and the selection whose statement is marked. */
   state: '', marked: 0,
 
   /** The text. `document` has its name and place, `saved` the text of its file, and `intro` says where it came from;
-   * `part` is the open tab of the text. `asked` counts the runs that were asked for, `ran` is the last of them that
+   * `asked` counts the runs that were asked for, `ran` is the last of them that
    * ended, `number` the backend's number of the run that is shown, and `judged` of the one whose results are; `fresh`
    * is true until the first run of a text. */
-  web: {pad: none, history: new History(), document: none, saved: '', shown: '', took: 0, intro: '', example: none, part: 'part-program',
-    timer: 0, keepTimer: 0, asked: 0, ran: 0, number: 0, judged: 0, fresh: true, fault: none, folder: '', outcome: {words: '', is: '', buttons: list(),
+  web: {pad: none, history: new History(), document: none, saved: '', shown: '', took: 0, intro: '', example: none,
+    timer: 0, keepTimer: 0, asked: 0, ran: 0, number: 0, judged: 0, fresh: true, fault: none, folder: '',
+      outcome: {words: '', is: '', buttons: list(),
     offers: list()}},
 };
 

@@ -1,4 +1,3 @@
-// @ts-check
 // The tab *Sums*: the totals of a run, by mote, for the net, and by link.
 import {DROP, FULL, HALT, KINDS, POST, PRINT, SEND, TAKE} from './data.js';
 import {element, table} from './dom.js';

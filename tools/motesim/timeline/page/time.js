@@ -1,4 +1,3 @@
-// @ts-check
 // The stretch of time in view, which all panes share.
 import {page} from './stage.js';
 

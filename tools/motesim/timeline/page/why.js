@@ -1,13 +1,11 @@
-// @ts-check
 // Why a line is there: the chain of its causes, on the lanes, on the map, and as a list of lines.
 import {pathOf} from './causes.js';
-import {chooseLine, chooseMote} from './details.js';
-import {byId, element, lineButton, list, makeButton, withPlaces} from './dom.js';
+import {rowButton} from './details.js';
+import {byId, count, element, list, makeButton, withPlaces} from './dom.js';
 import {redraw} from './draw.js';
 import {drawPath, head, ring, stroke} from './forms.js';
 import {SMALL_LANE} from './layout.js';
 import {page} from './stage.js';
-import {count} from './words.js';
 
 /** Pixels above a chain in its frame. */
 const EDGE = 6;
@@ -41,9 +39,7 @@ export function showChain(pane, hops, about = '') {
   const [first] = hops, path = pathOf(hops);
   page.why = {pane, run: pane.run, hops};
   show(`Why mote ${first.mote} writes: ${first.at} ${first.words}`, about ? [about, path] : [path],
-    hops.map(hop => lineButton(`line ${hop.row} of the report`, `${hop.at} ${hop.words}`,
-      `mote ${hop.mote}: ${hop.because}`, hop.line >= 0 && page.chosen.line === hop.line,
-      () => hop.line >= 0 ? chooseLine(pane, hop.line, true) : chooseMote(pane, hop.mote, true))),
+    hops.map(hop => rowButton(pane, hop.row, `mote ${hop.mote}: ${hop.because}`)),
     `A chain of ${count(hops.length, 'line')}. ${path}`);
 }
 

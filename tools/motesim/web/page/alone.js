@@ -1,25 +1,67 @@
-// @ts-check
 // What the page asks, answered in the page itself: runs, verdicts and surveys in workers with the module, and all else
 // from the columns of runs.
 import {Run} from '../../timeline/page/data.js';
 import {indexRun} from '../../timeline/page/index.js';
 import {Refused} from '../../timeline/page/stage.js';
-import {Bench} from './bench.js';
 import {FAULT, commentsIn} from './comments.js';
+import {ofRun, placeOfFault, ruleOf} from './errors.js';
 import {mend} from './mend.js';
-import {ofRun, placeOfFault, ruleOf, scenarioOf} from './scenario.js';
+import {readToml} from './toml.js';
 
-/** The milliseconds after which a survey is ended. */
-const LONGEST_SURVEY = 120000;
+/** The milliseconds after which a survey is ended, and the lines of a report after which a worker is. */
+const LONGEST_SURVEY = 120000, LONG = 200000;
+
+/** A worker that answers one question at a time. */
+class Bench {
+  worker = /** @type {Worker|null} */ (null);
+  /** Ends the question that goes on, with the worker. */
+  end = /** @type {(answer: any) => void} */ (() => {});
+
+  /** @param {string} script the address of the worker's */
+  constructor(script) { this.script = script; }
+
+  /** The answer of a module to a text, within so many milliseconds. A question that goes on is ended.
+   * @param {any} asked @param {number} most @returns {Promise<any>} */
+  ask(asked, most) {
+    this.end({superseded: true});
+    return new Promise(done => {
+      const worker = this.worker ||= new Worker(this.script);
+      const timer = setTimeout(() => this.end({limit: `This took longer than ${Math.round(most / 1000)} seconds, so it was stopped.`}), most);
+      const finish = answer => {
+        clearTimeout(timer);
+        this.end = () => {};
+        done(answer);
+      };
+      this.end = answer => {
+        worker.terminate();
+        this.worker = null;
+        finish(answer);
+      };
+      // (a worker that read a long report keeps its memory for a while)
+      worker.onmessage = ({data}) => data.columns?.at.length > LONG ? this.end(data) : finish(data);
+      worker.onerror = event => this.end({limit: `The run failed in this browser: ${event.message}`});
+      worker.postMessage(asked);
+    });
+  }
+}
 
 /** The line of an error, as motesim writes it. @returns {string|undefined} */
 const lineOf = ({line}) => line?.replace(/^motecheck: /, 'motesim: ');
 
 /** What the module reads: the words of motecheck, one a row, claims and a scenario. */
-const inputOf = (words, text, claims = /** @type {string[]} */ ([])) => [['motecheck', ...words].join('\n'), claims.join('\n'), text].join('\0');
+const inputOf = (words, text, claims = /** @type {string[]} */ ([])) => [['motecheck', ...words].join('\n'),
+  claims.join('\n'), text].join('\0');
 
 /** The words for the faults of a text. */
 const faultsOf = text => commentsIn(text, FAULT).map(it => `--fault=${it}`);
+
+/** The parts of a scenario, which motesim takes, for the page of its run. */
+export function scenarioOf(text) {
+  const {end, medium: {range, base, per, collide}, mote, loss = []} = readToml(text).tables;
+  return {end, range, base, per, collide: collide === true, faults: commentsIn(text, FAULT),
+    places: mote.map(it => [it.x, it.y]),
+    losses: loss.map(it => [it.from, it.to, it.every])};
+}
 
 /** @implements {Backend}
  * @typedef {import('../../timeline/page/stage.js').Backend} Backend */
@@ -55,10 +97,14 @@ export class Alone {
     return number === this.number ? {run, number, took: got.took} : {superseded: true};
   }
 
-  /** An error of a text, which motesim says by a line. @param {string} text @param {string} line @returns {Promise<any>} */
+  /** An error of a text, which motesim says by a line. @param {string} text @param {string} line @returns
+   * {Promise<any>} */
   async faultOf(text, line) {
     const {rules, corrections} = this.known;
-    return {line, words: ruleOf(rules, line), place: placeOfFault(text, line, corrections.keys)};
+    const place = placeOfFault(text, line, corrections.keys),
+      [, name, row] = /program (\S+) fault \d+ line (\d+)/.exec(line) || [];
+    const where = name && place ? `Line ${place[0] + 1} of the text is line ${row} of program ${name}.` : '';
+    return {line, place, where, words: ruleOf(rules, line)};
   }
 
   /** What motecheck answers to claims about the run of a text; with options, its survey.
@@ -78,8 +124,9 @@ export class Alone {
       const got = await this.front.ask({module, text: inputOf(['--report'], other)}, this.most);
       return got.superseded || got.limit ? undefined : lineOf(got) || null;
     });
-    return found && number === this.number ? {...fault, words: [found.words, ...fault.words].filter(Boolean), place: found.place,
-      corrected: found.text} : null;
+    if (!found || number !== this.number) return null;
+    const where = found.place[0] === fault.place[0] ? fault.where : `It was noticed in line ${fault.place[0] + 1}.`;
+    return {...fault, where, words: [found.words, ...fault.words], place: found.place, corrected: found.text};
   }
 
   endSurvey() { this.back.end({superseded: true}); }
@@ -91,6 +138,9 @@ export class Alone {
   /** Keeps an expectation that the reader writes: a claim that belongs into the text; '' if it is kept elsewhere.
    * @param {string} words @returns {Promise<string>} */
   async expect(words) { return words; }
+
+  /** Forgets an expectation that isn't in the text. @param {string} words @returns {Promise<void>} */
+  async unexpect(words) {}
 
   stop() {
     this.number++;

@@ -1,20 +1,19 @@
-// @ts-check
 // The tab *Checks*: what must hold of the run, decided after each run; and the ways to say it.
 import {chooseLine, chooseMote} from '../../timeline/page/details.js';
 import {byId, element, makeButton, onSubmit} from '../../timeline/page/dom.js';
 import {redraw} from '../../timeline/page/draw.js';
 import {showCard} from '../../timeline/page/drawer.js';
-import {ring, stroke} from '../../timeline/page/forms.js';
+import {ringAt} from '../../timeline/page/lanes.js';
 import {setNow} from '../../timeline/page/play.js';
 import {page} from '../../timeline/page/stage.js';
 import {sayWhy} from '../../timeline/page/why.js';
-import {claimsOfLine, suggestions, unusedIn, verdictsIn, wordsOf} from './claims.js';
-import {EXPECT, commentsIn, withComment, withoutComments} from './comments.js';
-import {beginFaults} from './faulty.js';
-import {beginMeter, leaveOut, measure} from './meter.js';
-import {whyMissing} from './missing.js';
+import {answerIn} from './answers.js';
+import {claimsOfLine, suggestions, wordsOf} from './claims.js';
+import {EXPECT, commentsIn, withComment, withoutComment} from './comments.js';
+import {whyMissing} from './diff.js';
+import {beginFaults} from './faults.js';
+import {beginMeter, brokenNow, leaveOut, measure, sayVerdict} from './meter.js';
 import {attempt} from './outcome.js';
-import {brokenNow, isBroken, sayVerdict} from './verdicts.js';
 import {change} from './web.js';
 
 const {web, checks} = page;
@@ -22,15 +21,15 @@ const {web, checks} = page;
 /** Decides what must hold about the run of a text, and then tries faults. */
 async function judge(text, number) {
   // (a run that goes on is of a newer text, and shares the worker)
-  const isOld = () => number !== web.number || web.ran !== web.asked;
+  const isOld = () => number !== web.number || web.ran !== web.asked, [{run}] = page.panes;
   const others = await page.backend.expectations(web.document, text);
   if (isOld()) return;
-  const motes = page.panes[0].run.begins.length;
-  const items = [...commentsIn(text, EXPECT).map(claim => ({words: wordsOf(claim, motes), claims: [claim], isOwn: true})), ...others];
+  const items = [...commentsIn(text, EXPECT).map(claim => ({words: wordsOf(claim, run, text), claims: [claim],
+    isOwn: true})), ...others];
   const decided = await decide(text, items.flatMap(it => it.claims));
   if (!decided || isOld()) return;
   checks.items = items.map(it => ({...it, verdicts: it.claims.map(claim => decided.verdicts.get(claim))}));
-  Object.assign(checks, {text, took: Math.min(decided.took, web.took), unused: decided.unused});
+  Object.assign(checks, {text, took: Math.min(decided.took, web.took), unused: decided.unused.map(it => it.text)});
   page.reactions.judged.forEach(does => does());
   redraw();
   if (checks.follows) await follow();
@@ -39,64 +38,85 @@ async function judge(text, number) {
 
 /** The verdicts on claims. One that can't be read is left out, and says where. */
 async function decide(text, claims) {
-  const verdicts = new Map(), left = [...new Set(claims)], fail = (claim, why) =>
-    verdicts.set(claim, {claim, holds: false, isFault: true, mote: -1, why});
+  const verdicts = new Map(), left = [...new Set(claims)];
+  const refuse = (claim, why) => verdicts.set(claim, {claim, verdict: 'refused', because: {text: why}});
   while (left.length) {
     const got = await page.backend.check(text, left);
     if (got.superseded) return null;
     const [, row, column] = /claims fault line (\d+) column (\d+)/.exec(got.line || '') || [];
     if (row) {
       const [claim] = left.splice(Number(row) - 1, 1);
-      fail(claim, `It can't be read from here on: ${claim.slice(Number(column) - 1) || 'its end'}`);
-    } else if (got.answer === undefined) for (const claim of left.splice(0)) fail(claim, got.limit || got.line);
+      refuse(claim, `It can't be read from here on: ${claim.slice(Number(column) - 1) || 'its end'}`);
+    } else if (got.answer === undefined) for (const claim of left.splice(0)) refuse(claim, got.limit || got.line);
     else {
-      for (const it of verdictsIn(got.answer)) verdicts.set(it.claim, it);
-      return {verdicts, took: got.took, unused: unusedIn(got.answer)};
+      const answer = answerIn(got.answer);
+      for (const it of answer.claims) verdicts.set(it.claim, it);
+      return {verdicts, took: got.took, unused: answer.unused};
     }
   }
   return {verdicts, took: 0, unused: []};
 }
 
 function showHeld() {
-  const {run} = page.panes[0], made = new Set(checks.items.flatMap(it => it.claims)), motes = run.begins.length;
-  const offers = suggestions(run, checks.text).filter(claim => !made.has(claim));
+  const {run} = page.panes[0], made = new Set(checks.items.flatMap(it => it.claims));
+  // (what a run with faults does is nothing to expect)
+  const offers = run.faults.length ? [] : suggestions(run, checks.text).filter(claim => !made.has(claim));
   byId('checks').classList.remove('earlier');
   byId('held').replaceChildren(...checks.items.map(itemOf));
   byId('suggested').replaceChildren(offers.length ? 'Suggested: ' : '', ...offers.map(claim =>
-    makeButton(`+ ${wordsOf(claim, motes)}`, () => expect(claim), {title: claim})));
+    makeButton(`+ ${wordsOf(claim, run, checks.text)}`, () => expect(claim), {title: claim})));
 }
+
+const small = (name, does, title) => makeButton(name, does, {title, className: 'small'});
+
+/** Takes an expectation out of the text, or out of the studio's file. */
+const forget = (words, [claim], isOwn) => isOwn ? change(withoutComment(web.history.text, EXPECT, claim), 'edit') :
+  attempt(async () => {
+    await page.backend.unexpect(words);
+    await judge(web.shown, web.number);
+  });
+
+/** Replaces the text by a small one in which the same faults break an expectation of the studio's file. */
+const shrink = sentence => attempt(async () => {
+  const {text} = web.history, made = await page.backend.ask('shrink', {text, sentence});
+  if (text === web.history.text) change(made.text, 'fault');
+});
 
 /** What must hold, as a row: a click on what is broken leads to its place. */
 function itemOf({words, claims, verdicts, isOwn, remark = ''}) {
-  const broken = verdicts.find(isBroken), isThere = broken && !broken.isFault;
-  const [is, sign, said] = !verdicts.length ? ['', '?', 'not decided'] : broken ? ['broken', '✗', 'broken'] : ['holds', '✓', 'holds'];
-  const small = (name, does, title) => makeButton(name, does, {title, className: 'small'});
+  const broken = verdicts.find(it => it.verdict !== 'holds'), isThere = broken?.verdict === 'broken';
+  const [is, sign, said] = !verdicts.length ? ['', '?', 'not decided'] : broken ? ['broken', '✗', 'broken'] :
+    ['holds', '✓', 'holds'];
   return element('li', '', [element('span', sign, [], {className: 'sign', 'aria-label': said}), element('div', '', [
-    isThere ? makeButton(words, () => goToBreak(broken, words)) : element('span', words, [], {title: claims.join('\n')}),
-    ...isOwn ? [small('×', () => change(withoutComments(web.history.text, EXPECT, claims[0]), 'edit'), 'Expect this no longer')] : [],
-    ...isThere && !isOwn && page.shrink ? [small('Shrink', () => page.shrink(words),
+    isThere ? makeButton(words, () => goToBreak(broken, words)) : element('span', words, [],
+      {title: claims.join('\n')}),
+    small('×', () => forget(words, claims, isOwn), 'Expect this no longer'),
+    ...isThere && !isOwn ? [small('Shrink', () => shrink(words),
       'Replace the text by a small scenario in which this is broken in the same way')] : [],
     ...is === 'holds' ? [tickOf(words)] : [],
-    element('span', [broken?.why, remark].filter(Boolean).join('\n'), [], {className: 'why'})])], {className: is});
+    element('span', [broken?.because?.text, remark].filter(Boolean).join('\n'), [], {className: 'why'})])],
+      {className: is});
 }
 
 /** Whether an expectation must also hold with a fault. */
-const tickOf = words => element('label', '', [element('input', '', [], {type: 'checkbox', checked: !checks.without.has(words),
-  onchange: () => leaveOut(words)}), ' with faults'], {className: 'small', title: 'Whether this must also hold with a fault'});
+const tickOf = words => element('label', '', [element('input', '', [], {type: 'checkbox',
+  checked: !checks.without.has(words),
+  onchange: () => leaveOut(words)}), ' with faults'],
+    {className: 'small', title: 'Whether this must also hold with a fault'});
 
 /** Adds a claim to the text. */
 function expect(claim) { change(withComment(web.history.text, EXPECT, claim), 'edit'); }
 
 /** Shows the line that breaks a claim, or the place of the missing one, and says why. */
-async function goToBreak({mote, number, at}, words) {
+async function goToBreak({because: {line, mote, to}}, words) {
   const [pane] = page.panes, {run} = pane, before = web.history.ranBefore?.run;
-  if (number) return chooseLine(pane, run.traceStart[mote] + number - 1, true);
+  if (line) return chooseLine(pane, run.traceStart[line.mote] + line.line - 1, true);
   if (page.askQuestion) return page.askQuestion(words);
-  if (mote < 0) return;
+  if ((mote ?? -1) < 0) return;
   const why = before && await whyMissing(before, run, mote);
   if (why?.line >= 0) chooseLine(pane, why.line, true); else {
     chooseMote(pane, mote, true);
-    if (at >= 0) setNow(at);
+    setNow(to ?? run.end);
   }
   showCard();
   if (why) sayWhy(why.words);
@@ -112,19 +132,18 @@ async function follow() {
 /** The buttons that make a line an expectation. */
 function expectsOf({run}, line) {
   return claimsOfLine(run, line, web.history.text).map((claim, i) =>
-    makeButton(`Expect this of ${i ? 'all motes that have it' : `mote ${run.moteOf(line)}`}`, () => expect(claim), {title: claim}));
+    makeButton(`Expect this of ${i ? 'all motes that have it' : `mote ${run.moteOf(line)}`}`, () => expect(claim),
+      {title: claim}));
 }
 
 /** Draws a ring at each line that breaks a claim, and at the place of each missing one. */
 function drawBreaks(pane) {
-  if (pane !== page.panes[0]) return;
-  const {context: c, run} = pane;
-  for (const {verdict: {mote, number, at}} of brokenNow()) {
-    if (mote < 0 || mote >= run.begins.length || !pane.sees(mote)) continue;
-    const [x, y] = number ? pane.placeOf(run.traceStart[mote] + number - 1, mote) :
-      [pane.x(at >= 0 ? at + 0.5 : run.end), pane.laneTop(mote) + pane.lane / 2];
-    ring(c, x, y, Math.max(5, Math.min(9, pane.lane * 0.4)));
-    stroke(c, 'trouble', 2.5);
+  const {run} = pane;
+  for (const {verdict: {because: {line, mote, to}}} of pane === page.panes[0] ? brokenNow() : []) {
+    if (line) ringAt(pane, line.mote, pane.placeOf(run.traceStart[line.mote] + line.line - 1, line.mote), 'trouble');
+    else if (run.begins.length > (mote ?? Infinity))
+      ringAt(pane, mote, [pane.x(Math.min(run.end, (to ?? run.end) + 0.5)), pane.laneTop(mote) + pane.lane / 2],
+        'trouble');
   }
 }
 

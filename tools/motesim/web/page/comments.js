@@ -1,4 +1,3 @@
-// @ts-check
 // The comments at the head of a scenario that the page reads: what must hold, the faults of its run, and the kinds of
 // faults that it is to survive. So a link, a file and Undo carry them.
 
@@ -11,27 +10,26 @@ const headOf = text => (/^([ \t]*(#.*)?\n)*/.exec(text) || [''])[0];
 export const commentsIn = (text, mark) =>
   headOf(text).split('\n').flatMap(row => row.startsWith(mark) ? row.slice(mark.length).trim() : []);
 
-/** The text with another comment in its head, behind those of its kind, unless it is there. */
-export function withComment(text, mark, words) {
-  if (commentsIn(text, mark).includes(words)) return text;
-  const head = headOf(text), last = head.lastIndexOf(mark), comments = (/^(#.*\n)*/.exec(text) || [''])[0];
-  const at = last >= 0 ? head.indexOf('\n', last) + 1 : comments.length;
-  return `${text.slice(0, at)}${mark}${words}\n${text.slice(at)}`;
+/** The text with what a function makes of its comments with a mark, each once.
+ * @param {string} text @param {string} mark @param {(its: string[]) => string[]} change */
+export function withComments(text, mark, change) {
+  const head = headOf(text), rows = head.split('\n'), others = rows.filter(row => !row.startsWith(mark));
+  const first = rows.findIndex(row => row.startsWith(mark)), behind = others.findIndex(row => !row.startsWith('#'));
+  const made = [...new Set(change(commentsIn(text, mark)))].map(it => mark + it);
+  others.splice(first < 0 ? behind : first, 0, ...made);
+  return others.join('\n') + text.slice(head.length);
 }
 
-/** The text without the comments of a kind that have these words, or without all of them. */
-export function withoutComments(text, mark, words = '') {
-  const head = headOf(text), isGone = row => row.startsWith(mark) && (!words || row.slice(mark.length).trim() === words);
-  return head.split('\n').filter(row => !isGone(row)).join('\n') + text.slice(head.length);
-}
+export const withComment = (text, mark, words) => withComments(text, mark, its => [...its, words]);
+export const withoutComment = (text, mark, words) => withComments(text, mark, its => its.filter(it => it !== words));
 
 /** The text whose faults name the motes by their numbers without one; its own faults are gone. */
-export function faultsWithoutMote(text, mote) {
-  const head = headOf(text), motes = /\bmote (\d+)|\blink (\d+) to (\d+)/g;
-  const isGone = row => [...row.matchAll(motes)].some(found => found.slice(1).includes(String(mote)));
-  const renumbered = row => row.replace(motes, words => words.replace(/\d+/g, it => String(Number(it) - Number(Number(it) > mote))));
-  return head.split('\n').flatMap(row => !row.startsWith(FAULT) ? row : isGone(row) ? [] : renumbered(row)).join('\n') + text.slice(head.length);
-}
+export const faultsWithoutMote = (text, mote) => withComments(text, FAULT, its => its.flatMap(it => {
+  const motes = /\bmote (\d+)|\blink (\d+) to (\d+)/g, isIts = found => found.slice(1).includes(String(mote));
+  return [...it.matchAll(motes)].some(isIts) ? [] :
+    it.replace(motes, words => words.replace(/\d+/g,
+      number => String(Number(number) - Number(Number(number) > mote))));
+}));
 
 /** The first sentence of the comment at the head of a text. */
 export function firstSentence(text) {

@@ -1,16 +1,17 @@
-// @ts-check
 // The differences between two runs: the first of all, the moment of the first one in each lane, their effect in a
-// sentence, and on the lanes a line, a flag, and a stroke in each lane.
-import {COLLIDE, FIELDS, HALT, PRINT, SEND} from '../../timeline/page/data.js';
+// sentence, why the later one lacks a print, and on the lanes a line, a flag, and a stroke in each lane.
+import {chainOf} from '../../timeline/page/causes.js';
+import {COLLIDE, FIELDS, HALT, PRINT, RECV, SEND} from '../../timeline/page/data.js';
 import {chooseLine, chooseMote} from '../../timeline/page/details.js';
+import {count, digits} from '../../timeline/page/dom.js';
 import {redraw} from '../../timeline/page/draw.js';
 import {box, drawPath, fill, setFont, write} from '../../timeline/page/forms.js';
+import {FATE_WORDS} from '../../timeline/page/index.js';
 import {AXIS} from '../../timeline/page/layout.js';
 import {setNow} from '../../timeline/page/play.js';
 import {page} from '../../timeline/page/stage.js';
 import {countKinds} from '../../timeline/page/sums.js';
 import {showTime} from '../../timeline/page/time.js';
-import {count, digits} from '../../timeline/page/words.js';
 
 /** The number of the log of the medium, which is used like the number of a mote, and is behind all motes. */
 const MEDIUM = Infinity;
@@ -69,7 +70,8 @@ function senderOf(a, b, place) {
 /** The first print that became another one, in words; '' if none did. */
 function printInWords(run, before) {
   const found = run.prints.flatMap((lines, mote) => {
-    const others = before.prints[mote] || [], place = lines.findIndex((line, i) => !sameLine(run, before, line, others[i]));
+    const others = before.prints[mote] || [], place = lines.findIndex((line, i) =>
+      !sameLine(run, before, line, others[i]));
     return place >= 0 && others[place] ? [{mote, line: lines[place], other: others[place]}] : [];
   }).sort((a, b) => run.at[a.line] - run.at[b.line]);
   if (!found.length) return '';
@@ -94,8 +96,35 @@ function numbersInWords(run, before) {
 export function effectInWords(run, before, {same, first}) {
   if (same) return 'This change has no effect: the report is the same.';
   if (!first) return 'The motes run other programs, and write the same lines.';
-  return `${numbersInWords(run, before)} First different at moment ${first.at}, ${
-    first.inMedium ? 'in the packets' : `at mote ${first.mote}`}.`;
+  const ends = run.end === before.end ? '' : ` It ends at ${run.end} instead of ${before.end}.`;
+  return numbersInWords(run, before) + ends + (first.at > run.end ? '' : ` First different at moment ${first.at}, ${
+    first.inMedium ? 'in the packets' : `at mote ${first.mote}`}.`);
+}
+
+/** The first print of a mote that a run lacks, as a line of the earlier run; -1 if there is none. */
+function missingPrint(before, run, mote) {
+  let next = 0;
+  return (before.prints[mote] || []).find(line => {
+    const own = run.prints[mote]?.[next], isThere = own !== undefined && run.w[own] === before.w[line] &&
+      run.process(run.p[own]) === before.process(before.p[line]);
+    if (isThere) next++;
+    return !isThere;
+  }) ?? -1;
+}
+
+/** Why a mote lacks a print that it had in an earlier run: in words, with the line of the run that came last on the
+ * way to it. Null if it lacks none. */
+export async function whyMissing(before, run, mote) {
+  const line = missingPrint(before, run, mote);
+  if (line < 0) return null;
+  const hops = (await chainOf(before, line)).filter(hop => hop.line >= 0).reverse();
+  const place = hops.findIndex(hop => run.find(hop) < 0), lost = hops[place], last = hops[place - 1];
+  const head = `Mote ${mote} doesn't print ${before.w[line]}, as it did at ${before.at[line]}`;
+  if (!lost || !last) return {words: `${head}.`, line: -1};
+  const from = run.find(last), k = lost.mote !== last.mote && before.kind[lost.line] === RECV ?
+    run.packetOf(before.p[lost.line], before.x[lost.line]) : -1, copy = k >= 0 ? run.copyFor(k, lost.mote) : -1;
+  return {line: from, words: copy >= 0 ? `${head}: packet ${run.packetNumber[k]} of mote ${last.mote} to mote ${lost.mote}, sent at ${
+    run.packetAt[k]}, was ${FATE_WORDS[run.copyFate[copy]]}.` : `${head}: mote ${lost.mote} doesn't write "${lost.words}" at ${lost.at}.`};
 }
 
 /** Brings the first difference into view, and selects its line. */

@@ -1,10 +1,9 @@
-// @ts-check
-// Changes of a scenario's text: motes are moved, added and removed, and links lose packets. All else stays in the text:
-// comments, order and layout.
+// Changes of a scenario's text: motes are moved, added and removed, and links lose packets. All else stays in the
+// text: comments, order and layout.
+import {digits} from '../../timeline/page/dom.js';
 import {Refused} from '../../timeline/page/stage.js';
-import {digits} from '../../timeline/page/words.js';
 import {faultsWithoutMote} from './comments.js';
-import {NoToml, readToml} from './toml.js';
+import {NoToml, readToml, tablesOf} from './toml.js';
 
 const MOST_PLACE = 30000, MOST_EVERY = 1000000, MOST_MOTES = 1000;
 
@@ -122,7 +121,8 @@ const EDITS = {
       name => /** @type {[any[], number]} */ ([['loss', i, name], loss[name] - 1])));
     const made = its.reduceRight((made, i) => made.without('loss', i), scenario.set(...others).without('mote', m));
     const itsLosses = its.length > 1 ? `; so are its ${its.length} losses.` : its.length ? '; so is its loss.' : '.';
-    return [new Scenario(faultsWithoutMote(made.text, m)), `Mote ${m} is removed${m < motes - 1 ? '; the motes after it are renumbered' : ''}${itsLosses}`];
+    return [new Scenario(faultsWithoutMote(made.text, m)), `Mote ${m} is removed${m < motes - 1 ?
+      '; the motes after it are renumbered' : ''}${itsLosses}`];
   },
 
   lose(scenario, wish) {
@@ -144,6 +144,14 @@ export function withSentence(source, sentence) {
   if (!list) return `expect = [\n  ${words},\n]\n${source}`;
   const at = last ? last[1] : list[0] + 1;
   return `${source.slice(0, at)}${last ? ',' : ''}\n  ${words}${last ? '' : ',\n'}${source.slice(at)}`;
+}
+
+/** The text of a file of expectations without one; as it is, if this isn't in its list. */
+export function withoutSentence(source, sentence) {
+  const at = (tablesOf(source).expect || []).indexOf(sentence);
+  if (at < 0) return source;
+  const [from, to] = readToml(source).place('expect', at).value;
+  return source.slice(0, from).trimEnd() + source.slice(to).replace(/^\s*,/, '');
 }
 
 /** The text that an edit makes of another, and its effect in words.

@@ -1,12 +1,35 @@
-// @ts-check
-// Faults of runs in the words of motecheck, such as `link 1 to 2 is broken`, and surveys of them.
-import {digits} from '../../timeline/page/words.js';
-import {KINDS as MARK, commentsIn, withComment, withoutComments} from './comments.js';
+// Faults of runs, each as its kind, its numbers and its text: those that the text carries, as a list beside it and on
+// the map; and the words about faults that were tried.
+import {drawCopy} from '../../timeline/page/arrows.js';
+import {byId, element, makeButton} from '../../timeline/page/dom.js';
+import {drawForm, drawPath, ring, stroke} from '../../timeline/page/forms.js';
+import {page} from '../../timeline/page/stage.js';
+import {FAULT, KINDS as MARK, commentsIn, withComment, withComments, withoutComment} from './comments.js';
+import {change} from './web.js';
+
+/** A fault, as motecheck has it: `mote` is the one that sends, is silent or off.
+ * @typedef {{kind: string, mote: number, to?: number, packet?: number, by?: number, text: string}} Fault */
 
 /** The kinds of faults that can be tried: the name, and the option of motecheck. */
-export const KINDS = [['links', '--links'], ['silent motes', '--silent'], ['lost copies', '--lost'], ['late copies', '--late=1,4']];
-const FORMS = [/^link (?<from>\d+) to (?<to>\d+) is broken$/, /^mote (?<from>\d+) is (?:silent|off from .*)$/,
-  /^packet (?<number>\d+) of mote (?<from>\d+) is (?:lost|\d+ late)(?: on the way to mote (?<to>\d+))?$/];
+export const KINDS = [['links', '--links'], ['silent motes', '--silent'], ['lost copies', '--lost'],
+  ['late copies', '--late=1,4']];
+const FORMS = [/^(?<kind>link) (?<mote>\d+) to (?<to>\d+) is broken$/,
+  /^mote (?<mote>\d+) (?:is )?(?<kind>silent|off|restarts)\b/,
+  /^packet (?<packet>\d+) of mote (?<mote>\d+) is (?:(?<by>\d+) )?(?<kind>lost|late)(?: on the way to mote (?<to>\d+))?$/];
+const MOST_DRAWN = 500;
+
+const {web, checks} = page;
+
+/** A fault from its text. @param {string} text @returns {Fault} */
+export function faultOf(text) {
+  const {kind = '', ...its} = FORMS.map(form => form.exec(text)?.groups).find(Boolean) || {};
+  const named = Object.entries(its).filter(([, value]) => value !== undefined);
+  return /** @type {any} */ ({mote: -1, ...Object.fromEntries(named.map(([name, value]) => [name, Number(value)])),
+    kind, text});
+}
+
+/** The faults that are a part of the run. */
+export const faultsNow = () => commentsIn(web.history.text, FAULT).map(faultOf);
 
 /** The kinds of faults that a text is to survive; null if it names none. */
 export function kindsIn(text) {
@@ -14,53 +37,83 @@ export function kindsIn(text) {
   return named === undefined ? null : KINDS.map(([name]) => name).filter(name => named.split(/, */).includes(name));
 }
 
-export const withKinds = (text, kinds) => withComment(withoutComments(text, MARK), MARK, kinds.join(', '));
+export const withKinds = (text, kinds) => withComments(text, MARK, () => [kinds.join(', ')]);
 
-/** The motes of a fault: the sender, the hearer if it is one, and the number of a packet; -1 for none. */
-export function partsOf(words) {
-  const its = FORMS.map(form => form.exec(words)?.groups).find(Boolean) || {};
-  return {from: Number(its.from ?? -1), to: Number(its.to ?? -1), number: Number(its.number ?? -1)};
-}
+/** A fault in few words: `link 1 to 2`, `mote 3`, `packet 4 of mote 0 to mote 5`. @param {Fault} fault */
+export const short = ({kind, mote, to, packet, by}) => kind === 'link' ? `link ${mote} to ${to}` :
+  packet === undefined ? `mote ${mote}` :
+    `packet ${packet} of mote ${mote}${to === undefined ? '' : ` to mote ${to}`}${by ? `, ${by} late` : ''}`;
 
-/** The copies of a run that a fault is about, each with its packet. @returns {number[][]} */
-export function copiesOf(run, words) {
-  const {from, to, number} = partsOf(words);
-  if (from < 0 || from >= run.begins.length) return [];
-  return [...run.sentPackets.subarray(run.sentStart[from], run.sentStart[from + 1])]
-    .filter(k => number < 0 || run.packetNumber[k] === number)
-    .flatMap(k => run.copiesOf(k).filter(copy => to < 0 || run.copyTo[copy] === to).map(copy => [k, copy]));
-}
-
-/** A fault in few words: `link 1 to 2`, `mote 3`, `packet 4 of mote 0 to mote 5`. */
-export const short = words => words.replace(/ is (broken|silent|lost)| on the way/g, '');
-
-/** The faults that alone break something, in words: a few by their names, more by their kinds. */
+/** The faults that alone break something, in words: a few by their names, more by their kinds. @param {Fault[]} faults */
 export function namesInWords(faults) {
-  const nouns = {link: 'link', mote: 'silent mote', packet: 'lost or late copy'}, few = faults.length <= 3;
-  const names = few ? faults.map(short) : Object.entries(nouns).flatMap(([word, noun]) => {
-    const its = faults.filter(it => it.startsWith(word));
-    return its.length > 2 ? `one of ${its.length} ${noun.replace(/y$/, 'ie')}s` : its.map(short);
+  const nouns = {link: 'links', silent: 'silent motes', lost: 'lost copies', late: 'late copies'};
+  const names = faults.length <= 3 ? faults.map(short) : Object.entries(nouns).flatMap(([kind, noun]) => {
+    const its = faults.filter(it => it.kind === kind);
+    return its.length > 2 ? `one of ${its.length} ${noun}` : its.map(short);
   });
   return names.length > 1 ? `${names.slice(0, -1).join(', ')} or ${names[names.length - 1]}` : names.join();
 }
 
-/** A survey in an answer of motecheck: the sets of faults that break claims, with these claims; what was covered, in its
- * words; the runs; and whether it came to its end. */
-export function surveyIn(answer) {
-  const sets = /** @type {Map<string, {faults: string[], claims: string[]}>} */ (new Map());
-  let claim = '';
-  for (const row of answer.trimEnd().split('\n')) {
-    const [, set] = /^ {2}if (.*)$/.exec(row) || [];
-    if (row.startsWith('broken: ')) claim = row.slice(8);
-    else if (set) sets.set(set, {faults: set.split(' and '), claims: [...sets.get(set)?.claims || [], claim]});
-  }
-  const [, covered = '', before, runs] = /^covered: (.*?)( before the limit)?; runs: (\d+)$/m.exec(answer) || [];
-  return {sets: [...sets.values()], covered, runs: Number(runs), isStopped: Boolean(before)};
+/** Makes a fault a part of the run, or takes it away again. */
+function toggle(text) {
+  const isThere = commentsIn(web.history.text, FAULT).includes(text);
+  change((isThere ? withoutComment : withComment)(web.history.text, FAULT, text), 'fault');
 }
 
-/** What a survey found, in one sentence. */
-export function surveyInWords({sets, covered, runs, isStopped}, took) {
-  const found = sets.length ? `${sets.length === 1 ? '1 breaks' : `${digits(sets.length)} break`} it` :
-    isStopped ? 'not broken so far' : 'none breaks it';
-  return `Covered ${covered} in ${digits(runs)} runs, ${digits(Math.max(1, Math.round(took)))} ms: ${found}.`;
+/** Makes faults those of the run of a text. @param {string[]} faults */
+export const setFaults = faults => change(withComments(web.history.text, FAULT, () => faults), 'fault');
+
+function showList() {
+  const faults = faultsNow();
+  byId('run-faults').hidden = !faults.length;
+  byId('run-faults').replaceChildren(faults.length > 1 ? 'Faults: ' : 'Fault: ', ...faults.map(({text}) => {
+    const isUnused = checks.unused.includes(text);
+    return element('span', text, [makeButton('×', () => toggle(text), {title: 'Run without this fault'})],
+      {className: isUnused ? 'chip unused' : 'chip', title: isUnused ? 'The run sends no such copy.' : ''});
+  }));
+}
+
+/** The buttons that try a fault of what is selected. */
+function faultsOf({run}) {
+  const {mote, line, k, copy} = page.chosen, from = k >= 0 ? run.packetSender[k] : mote, to = run.copyTo[copy];
+  const packet = `packet ${run.packetNumber[k]} of mote ${from} is lost`, silent = `mote ${from} is silent`;
+  const link = `link ${from} to ${to} is broken`, own = faultsNow().map(it => it.text);
+  const its = copy >= 0 ? {[`${packet} on the way to mote ${to}`]: 'this copy is lost', [link]: link} :
+    k >= 0 ? {[packet]: 'this packet is lost', [silent]: silent} : line < 0 ? {[silent]: 'it is silent'} : {};
+  return Object.entries(its).map(([text, said]) =>
+    makeButton(own.includes(text) ? `Not so: ${said}` : `What if ${said}?`, () => toggle(text), {title: text}));
+}
+
+/** Draws on the map the faults of the run, as crosses and clocks; and those that alone break what must hold, in red. */
+function drawOnMap(map) {
+  const {context: c, run, radius} = map, here = its => its.filter(it => it.mote >= 0 &&
+    Math.max(it.mote, it.to ?? 0) < run.begins.length);
+  for (const {kind, mote, to} of here((run.faults || []).map(faultOf))) {
+    const x = map.x(mote), y = map.y(mote);
+    if (to === undefined) drawForm(c, kind === 'lost' ? 'lost' : 'cross', x, y, radius);
+    else if (kind === 'late') drawForm(c, 'timer', (x + map.x(to)) / 2, (y + map.y(to)) / 2, 5);
+    else map.drawLoss(c, mote, to);
+  }
+  for (const {kind, mote, to} of here(checks.weak)) {
+    if (kind === 'link') drawPath(c, map.way(mote, to, radius), 'trouble', 4, 0.8);
+    if (kind !== 'silent') continue;
+    ring(c, map.x(mote), map.y(mote), radius + 4);
+    stroke(c, 'trouble', 2.5);
+  }
+}
+
+/** Draws the copies that faults lose or delay. */
+function drawOnLanes(pane) {
+  const {run} = pane, copies = (run.faults || []).map(faultOf).flatMap(({mote, packet, to}) =>
+    run.packetsOf(mote).filter(k => packet === undefined || run.packetNumber[k] === packet).flatMap(k =>
+      run.copiesOf(k).filter(copy => to === undefined || run.copyTo[copy] === to).map(copy => [k, copy])));
+  for (const [k, copy] of copies.slice(0, MOST_DRAWN)) drawCopy(pane, k, copy, 2);
+}
+
+export function beginFaults() {
+  page.overlays.push(drawOnLanes);
+  page.mapOverlays.push(drawOnMap);
+  page.faultsOf = faultsOf;
+  page.toggleFault = toggle;
+  for (const name of ['outdated', 'opened', 'judged']) page.reactions[name].push(showList);
 }

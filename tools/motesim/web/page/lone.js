@@ -1,4 +1,3 @@
-// @ts-check
 // Opens the page without a server: on the text of a link, of this page, or of the last time, or on an example.
 import {chainOf} from '../../timeline/page/causes.js';
 import {byId} from '../../timeline/page/dom.js';
@@ -7,7 +6,7 @@ import {unpacked} from '../../timeline/page/packing.js';
 import {page} from '../../timeline/page/stage.js';
 import {Alone} from './alone.js';
 import {beginChecks} from './checks.js';
-import {drafts, keepDraft, keepInAddress, keepSession, textToOpen} from './keeping.js';
+import {keepDraft, keepInAddress, keepSession, textToOpen} from './keeping.js';
 import {say} from './outcome.js';
 import {begin, open, openExample} from './web.js';
 
@@ -21,11 +20,11 @@ async function start() {
     bytes => WebAssembly.compile(/** @type {BufferSource} */ (bytes)));
   const backend = new Alone(module, byId('worker').textContent, data);
   page.chainOf = chainOf;
-  const [first] = begin(backend, data, drafts);
+  const [first] = begin(backend, data);
   beginChecks();
   page.reactions.kept.push(text => {
     const {document, saved} = page.web;
-    keepDraft(text, document, saved);
+    keepDraft(text);
     keepInAddress(document.where === 'example' && text === saved ? null : text);
   });
   page.reactions.opened.push(({name, where}) => {

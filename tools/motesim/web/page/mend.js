@@ -1,11 +1,15 @@
-// @ts-check
 // Corrections of an error: changes of its row, or of the one before. motesim says which of them leave no error, or get
 // past this one. What rows become, and the words, are those of tools/explain.
-import {placeOfNoToml, programsOf, tablesOf} from './scenario.js';
-import {lineAndColumn} from './text.js';
+import {digits} from '../../timeline/page/dom.js';
+import {placeOfNoToml} from './errors.js';
+import {namesAt} from './names.js';
+import {lineAndColumn, programsOf, tablesOf} from './toml.js';
 
-const MOST = 400, FAR = 2, SIGNS = [';', ')', '(', '{', '}'], SWAPPED = {'=': '==', '==': '='};
+const MOST = 250, FAR = 2, SIGNS = [';', ')', '(', '{', '}'], SWAPPED = {'=': '==', '==': '='};
 const TOKEN = /\w+|[=!<>]=|&&|\|\||[^\s\w]/g, BRACKETS = {'(': 1, ')': -1};
+const OPERATOR = /^([=!<>]=|&&|\|\||[-+*/%<>&|^])$/;
+/** Two values with an operator between them. */
+const BOTH = /^\(\w+ *[^\w\s()]+ *\w+\)$/;
 
 /** How many letters are to be changed, added, left out or swapped to make one word of another, up to FAR. */
 export function distance(a, b) {
@@ -14,7 +18,8 @@ export function distance(a, b) {
   for (let i = 1; i <= a.length; i++) {
     rows.push([i]);
     for (let j = 1; j <= b.length; j++) {
-      const least = Math.min(rows[i - 1][j] + 1, rows[i][j - 1] + 1, rows[i - 1][j - 1] + Number(a[i - 1] !== b[j - 1]));
+      const least = Math.min(rows[i - 1][j] + 1, rows[i][j - 1] + 1,
+        rows[i - 1][j - 1] + Number(a[i - 1] !== b[j - 1]));
       const isSwap = i > 1 && j > 1 && a[i - 1] === b[j - 2] && a[i - 2] === b[j - 1];
       rows[i].push(isSwap ? Math.min(least, rows[i - 2][j - 2] + 1) : least);
     }
@@ -31,19 +36,21 @@ const lastAbove = (rows, at, isIt) => rows.slice(0, at).map(isIt).lastIndexOf(tr
 /** A row that may be meant, with the code and the facts of its hint.
  * @typedef {[string, string, Record<string, string>]} Meant */
 
-/** The rows with another word, the nearest first. @param {string} row @param {string[]} known @returns {Generator<Meant>} */
+/** The rows with another word, the nearest first. @param {string} row @param {string[]} known @returns
+ * {Generator<Meant>} */
 function* withWords(row, known) {
-  for (const {0: word, index} of row.replace(/\/\/.*/, '').matchAll(/\b[A-Za-z_]\w*/g)) {
-    const far = it => distance(word, it), most = Math.min(FAR, Math.max(1, Math.floor(word.length / 4)));
+  for (const word of new Set(row.replace(/\/\/.*/, '').match(/\b[A-Za-z_]\w*/g))) {
+    const far = it => distance(word, it), most = Math.min(FAR, Math.max(1, Math.floor(word.length / 3)));
     for (const name of known.filter(it => it !== word && far(it) <= most).sort((a, b) => far(a) - far(b)).slice(0, 3))
-      yield [row.slice(0, index) + name + row.slice(index + word.length), 'similar', {name}];
+      yield [row.replace(new RegExp(`\\b${word}\\b`, 'g'), name), 'similar', {name}];
   }
 }
 
 /** The rows of a program with another sign, one more or one less; with parentheses, or without them.
  * @param {string} row @returns {Generator<Meant>} */
 function* withSigns(row) {
-  const tokens = [...row.replace(/\/\/.*/, '').matchAll(TOKEN)].map(it => ({text: it[0], from: it.index, to: it.index + it[0].length}));
+  const tokens = [...row.replace(/\/\/.*/, '').matchAll(TOKEN)].map(it => ({text: it[0], from: it.index,
+    to: it.index + it[0].length}));
   const put = (from, to, piece) => row.slice(0, from) + piece + row.slice(to);
   for (const {text, from, to} of tokens) if (SWAPPED[text]) yield [put(from, to, SWAPPED[text]), 'equals', {}];
   for (const sign of SIGNS) {
@@ -53,14 +60,19 @@ function* withSigns(row) {
     }
   }
   for (const {text: sign, from, to} of tokens) if (!/\w/.test(sign)) yield [put(from, to, ''), 'too-many', {sign}];
-  for (const [i, {from}] of tokens.entries()) {
-    for (const {to} of tokens.slice(i + 2)) {
+  for (const [i, {from, text: first}] of tokens.entries()) {
+    let depth = 0, sign = '';
+    for (const {text, from: last, to} of tokens.slice(i)) {
+      depth += BRACKETS[text] || 0;
+      if (depth < 0) break;
+      if (depth) continue;
       const whole = `(${row.slice(from, to)})`;
-      yield [put(from, to, whole), 'two-values', {sign: tokens[i + 1].text, whole}];
+      if (OPERATOR.test(text)) sign ||= text;
+      else if (sign) yield [put(from, to, whole), 'two-values', {sign, whole}];
+      else if (first === '(' && text === ')')
+        yield [put(from, to, (/\w/.test(row[from - 1] || '') ? ' ' : '') + row.slice(from + 1, last)), 'one-value',
+          {}];
     }
-    let depth = 0;
-    const end = tokens.slice(i).find(({text}) => !(depth += BRACKETS[text] || 0));
-    if (end && end.from > from) yield [put(from, end.to, row.slice(from + 1, end.from)), 'one-value', {}];
   }
 }
 
@@ -81,26 +93,42 @@ function changedPart(row, other) {
 /** A candidate: a whole text, the reason, and the place that is changed.
  * @typedef {{text: string, words: string, place: [number, number, number]}} Candidate */
 
+/** The row of a table with a whole number within the range of its key. @param {string} row @returns {Generator<Meant>} */
+function* withinRange(row, keys) {
+  const [, head, key, number] = /^(\s*(\w+)\s*=\s*)([+-]?[\d.]+)/.exec(row) || [];
+  const [least, most] = Object.values(keys).map(it => it.numbers[key]).find(Boolean) || [];
+  for (const from of least === undefined ? [] : [least, 1]) {
+    const value = Math.min(most, Math.max(from, Math.round(Number(number))));
+    if (String(value) !== number) yield [head + value, '',
+      {why: `\`${key}\` is a whole number from ${digits(from)} to ${digits(most)}.`}];
+  }
+}
+
 /** The likely corrections of an error at a row of a text, the likeliest first. `words` are those of the notation, and
  * `rules` those of tools/explain.
  * @param {string} text @param {number} at @param {any} words @param {any} rules @returns {Generator<Candidate>} */
 function* near(text, at, words, rules) {
   const rows = text.split('\n'), program = programsOf(text).find(({begin, end}) =>
     at >= lineAndColumn(text, begin)[0] && at <= lineAndColumn(text, end)[0]);
-  const before = lastAbove(rows, at, row => row.trim() !== ''), {programs = {}} = tablesOf(text);
-  const tell = (code, facts) => rules.hints[code].replace(/\{(\w+)\}/g, (_, name) => facts[name]);
-  const known = program ? [...words.naming, ...Object.values(words.colours).flat(),
-    ...text.slice(program.begin, program.end).replace(/\/\/.*/g, '').match(/\b[a-z]\w*/g) || []] :
-    [...Object.values(rules.keys).flatMap(it => it.may), ...Object.keys(programs)];
-  const names = [...new Set(known)].filter(it => /^\w+$/.test(it));
-  const meant = row => [...[...withWords(row, names)].map(([other, code, facts]) => [other, tell(code, facts)]),
-    ...rules[program ? 'programs' : 'tables'].map(([form, other, why]) => [row.replace(new RegExp(form), other), why]),
-    ...program ? [...withSigns(row)].map(([other, code, facts]) => [other, tell(code, facts)]) : []];
-  const found = [...new Set([at, before])].filter(it => it >= 0).flatMap(place => meant(rows[place]).map(([other, why], rank) => ({
-    rank, why, other, place, row: rows[place]})));
-  for (const {why, row, other, place} of found.sort((a, b) => a.rank - b.rank)) {
+  const before = lastAbove(rows, at, row => row.trim() !== '');
+  const tell = (code, facts) => code ? rules.hints[code].replace(/\{(\w+)\}/g, (_, name) => facts[name]) : facts.why;
+  const names = namesAt(text, program?.begin ?? 0, {...words, keys: rules.keys});
+  const meant = row => [...withWords(row, names),
+    ...rules[program ? 'programs' : 'tables'].map(([form, other, why]) => [row.replace(new RegExp(form), other), '',
+      {why}]),
+    ...program ? withSigns(row) : withinRange(row, rules.keys)];
+  const found = [...new Set([at, before])].filter(it => it >= 0).flatMap(place =>
+    meant(rows[place]).map(([other, code, facts], rank) => ({
+    rank, other, place, row: rows[place], why: tell(code, facts), isPart: BOTH.test(facts.whole),
+      isWord: code === 'similar'})));
+  // (after all single ones: two corrections of a row)
+  const twice = [...found.filter(it => it.isPart), ...found.filter(it => it.isWord)].flatMap(one =>
+    meant(one.other).map(([other, code, facts]) => ({
+    ...one, other, why: `${one.why} ${tell(code, facts)}`})));
+  for (const {why, row, other, place} of [...found.sort((a, b) => a.rank - b.rank), ...twice]) {
     if (other === row) continue;
-    yield {text: changed(rows, place, 1, other).join('\n'), words: why, place: /** @type {[number, number, number]} */ ([place, ...changedPart(row, other)])};
+    yield {text: changed(rows, place, 1, other).join('\n'), words: why,
+      place: /** @type {[number, number, number]} */ ([place, ...changedPart(row, other)])};
   }
   if (program) yield* moved(rows, at, rules.orders, tell);
 }
@@ -108,11 +136,14 @@ function* near(text, at, words, rules) {
 /** The text with a declaration above the first part that comes behind it.
  * @param {string[]} rows @param {number} at @param {string[][]} orders @returns {Generator<Candidate>} */
 function* moved(rows, at, orders, tell) {
-  const wordOf = row => /^\s*(\w+)/.exec(row)?.[1] || '', word = wordOf(rows[at]), order = orders.find(it => it.includes(word));
+  const wordOf = row => /^\s*(\w+)/.exec(row)?.[1] || '', word = wordOf(rows[at]),
+    order = orders.find(it => it.includes(word));
   const from = word === 'code' ? 0 : lastAbove(rows, at, row => wordOf(row) === 'code');
-  const target = rows.findIndex((row, i) => i >= from && i < at && order?.slice(order.indexOf(word) + 1).includes(wordOf(row)));
+  const target = rows.findIndex((row, i) => i >= from && i < at &&
+    order?.slice(order.indexOf(word) + 1).includes(wordOf(row)));
   if (target < 0) return;
-  const facts = {word, whole: orders.indexOf(order) ? 'a code' : 'a program', order: order.map(it => `\`${it}\``).join(', ')};
+  const facts = {word, whole: orders.indexOf(order) ? 'a code' : 'a program',
+    order: order.map(it => `\`${it}\``).join(', ')};
   yield {text: changed(changed(rows, at, 1), target, 0, rows[at]).join('\n'), words: tell('late-part', facts),
     place: [at, 0, rows[at].length]};
 }

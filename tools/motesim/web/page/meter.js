@@ -1,32 +1,32 @@
-// @ts-check
 // The meter: which faults break what must hold. Single faults are tried after each run, and pairs when they are asked
-// for, in the run without its own faults.
-import {byId, element, makeButton} from '../../timeline/page/dom.js';
+// for, in the run without its own faults. And what the checks say of all this, in one sentence.
+import {byId, count, digits, element, makeButton, onClick} from '../../timeline/page/dom.js';
 import {redraw} from '../../timeline/page/draw.js';
-import {drawPath, ring, stroke} from '../../timeline/page/forms.js';
 import {page} from '../../timeline/page/stage.js';
-import {count, digits} from '../../timeline/page/words.js';
-import {FAULT, withoutComments} from './comments.js';
-import {addFaults} from './faulty.js';
-import {KINDS, kindsIn, partsOf, short, surveyIn, surveyInWords, withKinds} from './faults.js';
-import {allHold, faultsNow, label, sayVerdict} from './verdicts.js';
+import {answerIn} from './answers.js';
+import {FAULT, withComments} from './comments.js';
+import {KINDS, faultsNow, kindsIn, namesInWords, setFaults, short, withKinds} from './faults.js';
+import {sayOutcome} from './outcome.js';
 import {change} from './web.js';
 
 const {web, checks} = page;
 /** The kinds of faults that are tried if the text names none, the last of them only in runs with few copies. */
 const USUAL = KINDS.slice(0, 3).map(([name]) => name), MOST_COPIES = 4000;
 /** The milliseconds that single faults may need to be tried without being asked for; and the sets that are shown. */
-const AT_ONCE = 20000, MOST_SETS = 60, TICK = 100;
+const AT_ONCE = 20000, MOST_SETS = 60;
 const NOTE = 'The module in this page decides this. What is proved is about the native motecheck.';
+
+const isBroken = ({verdict}) => verdict !== 'holds';
+
+/** The broken verdicts, each with its expectation. */
+export const brokenNow = () => checks.items.flatMap(it => it.verdicts.filter(isBroken).map(verdict =>
+  ({it, verdict})));
 
 /** The names of the kinds of faults that are tried. */
 const kindsNow = () => kindsIn(web.history.text) || USUAL.slice(0, page.panes[0].run.copies > MOST_COPIES ? 2 : 3);
 
 /** The text without the faults of its run, which is the one that is surveyed. */
-const bareText = () => withoutComments(web.history.text, FAULT);
-
-const optionsOf = most => [...KINDS.filter(([name]) => kindsNow().includes(name)).map(([, option]) => option),
-  `--at-most=${most}`, `--runs=${2 ** 32}`];
+const bare = text => withComments(text, FAULT, () => []);
 
 /** The runs that sets of so many faults of the kinds that are tried may need. */
 function runsOf(most) {
@@ -37,30 +37,38 @@ function runsOf(most) {
 }
 
 /** The milliseconds that sets of so many faults probably need. */
-const estimate = most => runsOf(most) * Math.max(0.2, checks.survey ? checks.survey.took / checks.survey.runs : checks.took);
+const estimate = most => runsOf(most) * Math.max(0.2, checks.survey ? checks.survey.took / checks.survey.runs :
+  checks.took);
 
-/** The claims that must also hold with a fault. */
-const surveyed = () => checks.items.filter(it => !checks.without.has(it.words)).flatMap(it => it.claims);
+const canSurvey = () => checks.items.length > 0 && !brokenNow().length && !faultsNow().length && runsOf(1) > 0;
 
-const canSurvey = () => allHold() && !faultsNow().length && surveyed().length > 0 && runsOf(1) > 0;
+/** The sets of faults that break an expectation which must also hold with faults, each with the claims that it breaks. */
+export function breaking(survey) {
+  const found = new Map(), counted = checks.items.filter(it => !checks.without.has(it.words)).flatMap(it => it.claims);
+  for (const {claim, sets} of survey?.claims.filter(it => counted.includes(it.claim)) || []) {
+    for (const faults of sets) {
+      const key = faults.map(short).join(' + ');
+      found.set(key, {key, faults, claims: [...found.get(key)?.claims || [], claim]});
+    }
+  }
+  return [...found.values()];
+}
 
-/** Leaves an expectation out of the surveys of faults, or takes it in again; and surveys anew. */
+/** Leaves an expectation out of what faults may break, or takes it in again. */
 export function leaveOut(words) {
   if (!checks.without.delete(words)) checks.without.add(words);
   checks.chosen = true;
-  forget();
-  measure();
+  showSurvey();
 }
 
-/** Leaves out what most single faults break: it says how a run goes, and not what it is for. Not in an exercise, and not
- * if the reader has chosen. */
-function leaveOutPins({sets}) {
+/** Leaves out what most single faults break: it says how a run goes, and not what it is for. Not in an exercise, and
+ * not if the reader has chosen. */
+function leaveOutPins({claims}) {
   if (checks.chosen || kindsIn(checks.text) !== null) return;
-  const pins = checks.items.filter(({claims}) => 2 * sets.filter(set => set.claims.some(it => claims.includes(it))).length > runsOf(1));
+  const setsOf = it => claims.reduce((sum, {claim, sets}) => sum + (it.claims.includes(claim) ? sets.length : 0), 0);
+  const pins = checks.items.filter(it => 2 * setsOf(it) > runsOf(1));
   if (pins.length < checks.items.length) for (const {words} of pins) checks.without.add(words);
 }
-
-const forget = () => Object.assign(checks, {survey: null, pairs: null});
 
 /** Tries single faults, unless this is known already or needs long. */
 export async function measure() {
@@ -70,76 +78,111 @@ export async function measure() {
 
 /** Tries all sets of so many faults. */
 async function survey(most) {
-  const {number} = web, begin = performance.now(), needs = estimate(most), bar = byId('survey-progress'), kinds = kindsNow();
-  const timer = setInterval(() => { bar.value = Math.min(0.98, (performance.now() - begin) / needs); }, TICK);
-  Object.assign(bar, {hidden: false, value: 0});
+  const {number} = web, begin = performance.now(), kinds = kindsNow();
+  byId('survey-progress').hidden = false;
   byId('try-single').disabled = byId('try-pairs').disabled = true;
-  byId('tried').textContent = `At most ${digits(runsOf(most) + 1)} runs, about ${digits(Math.ceil(needs / 1000))} s …`;
-  const got = await page.backend.check(bareText(), surveyed(), optionsOf(most));
-  clearInterval(timer);
+  byId('tried').textContent = `At most ${digits(runsOf(most) + 1)} runs, about ${count(Math.ceil(estimate(most) / 1000), 'second')} …`;
+  const options = KINDS.filter(([name]) => kinds.includes(name)).map(([, option]) => option);
+  const got = await page.backend.check(bare(web.history.text), checks.items.flatMap(it => it.claims),
+    [...options, `--at-most=${most}`, `--runs=${2 ** 32}`]);
   if (number !== web.number || got.superseded) return;
-  bar.hidden = true;
+  byId('survey-progress').hidden = true;
   if (got.answer === undefined) return void (byId('tried').textContent = got.limit || got.line);
-  const found = surveyIn(got.answer);
+  const found = {...answerIn(got.answer), most, kinds, took: performance.now() - begin};
   if (most === 1) leaveOutPins(found);
-  const claims = surveyed(), sets = found.sets.filter(set => set.claims.some(it => claims.includes(it)));
-  checks[most === 1 ? 'survey' : 'pairs'] = {...found, sets, kinds, took: performance.now() - begin};
+  checks[most === 1 ? 'survey' : 'pairs'] = found;
+  showSurvey();
+}
+
+function showSurvey() {
+  checks.weak = breaking(checks.survey).flatMap(({faults}) => faults);
   page.reactions.surveyed.forEach(does => does());
   showMeter();
   sayVerdict();
   redraw();
 }
 
+/** What a survey found, in one sentence. */
+function surveyInWords(survey) {
+  const {covered, runs, is_whole, took, most} = survey, {length} = breaking(survey);
+  const found = length ? `${digits(length)} break${length > 1 ? '' : 's'} it` : is_whole ? 'none breaks it' :
+    'not broken so far';
+  const what = !is_whole ? covered : most === 1 ? 'each single fault of these kinds' :
+    'each fault of these kinds and each pair';
+  return `Covered: ${what}, by ${count(runs, 'run')} in ${digits(Math.max(1,
+    Math.round(took)))} ms. ${found.replace(/^n/, 'N')}.`;
+}
+
 /** Shows what is known of faults, and the buttons to try others. */
 function showMeter() {
-  const {survey: singles, pairs, without: {size}} = checks, found = pairs || singles, can = canSurvey(), own = faultsNow();
+  const {survey: singles, pairs, without: {size}} = checks, found = pairs || singles, can = canSurvey();
+  const own = faultsNow().map(it => it.text), sets = breaking(found), more = sets.length - MOST_SETS;
   for (const box of byId('kinds').querySelectorAll('input')) box.checked = kindsNow().includes(box.value);
   byId('survey-progress').hidden = true;
   Object.assign(byId('try-single'), {hidden: !can || Boolean(singles), disabled: false});
   Object.assign(byId('try-pairs'), {hidden: !can || !singles || Boolean(pairs), disabled: false});
-  byId('tried').textContent = found ? surveyInWords(found, found.took) : can ? '' : !checks.items.length ?
+  byId('tried').textContent = found ? surveyInWords(found) : can ? '' : !checks.items.length ?
     'Say what must hold; then faults are tried.' : own.length ? 'Other faults are tried in the run without faults.' :
     'Faults are tried when everything holds without them.';
-  byId('breaking').replaceChildren(...(found?.sets || []).slice(0, MOST_SETS).map(({faults, claims}) =>
-    makeButton(`✗ ${faults.map(short).join(' + ')}`, () => take(faults), {title: `It breaks: ${claims.join('\n')}`,
-      'aria-pressed': String(faults.every(it => own.includes(it)))})));
-  const more = (found?.sets.length || 0) - MOST_SETS;
-  if (more > 0) byId('breaking').append(` and ${digits(more)} more`);
-  byId('checks-note').textContent = `${size ? `${count(size, 'expectation')} without a tick ${size > 1 ? 'are' : 'is'} not counted. ` : ''}${
+  byId('breaking').replaceChildren(...sets.slice(0, MOST_SETS).map(({key, faults, claims}) =>
+    makeButton(`✗ ${key}`, () => take(faults),
+    {title: `It breaks: ${claims.join('\n')}`, 'aria-pressed': String(faults.every(it => own.includes(it.text)))})),
+  more > 0 ? ` and ${digits(more)} more` : '');
+  byId('checks-note').textContent = `${size ? `${count(size, 'expectation')} without a tick ${size > 1 ? 'are' :
+    'is'} not counted. ` : ''}${
     checks.items.length ? NOTE : ''}`;
 }
 
 /** Makes faults those of the run, in place of others; or takes them away again. */
 function take(faults) {
-  const isThere = faults.every(it => faultsNow().includes(it));
-  checks.follows = !isThere;
-  addFaults(bareText(), isThere ? [] : faults);
+  const own = faultsNow().map(it => it.text);
+  checks.follows = !faults.every(it => own.includes(it.text));
+  setFaults(checks.follows ? faults.map(it => it.text) : []);
 }
 
-/** Draws the links and motes that alone break what must hold. */
-function drawBreaking(map) {
-  for (const {faults: [words, another]} of checks.survey?.sets || []) {
-    const {from, to, number} = partsOf(words), c = map.context;
-    if (another || number >= 0 || Math.max(from, to) >= map.run.begins.length) continue;
-    if (to >= 0) drawPath(c, map.way(from, to, map.radius), 'trouble', 4, 0.8);
-    else {
-      ring(c, map.x(from), map.y(from), map.radius + 4);
-      stroke(c, 'trouble', 2.5);
-    }
-  }
+/** What the checks say of the run. */
+function verdictInWords() {
+  const {items, survey: found, text} = checks, broken = items.filter(it => it.verdicts.some(isBroken)),
+    own = faultsNow().length;
+  const isExercise = kindsIn(text) !== null, held = items.length === 1 ? items[0].words :
+    `all ${items.length} expectations hold`;
+  const refused = items.find(it => it.verdicts.some(({verdict}) => verdict === 'refused'));
+  if (!items.length) return '';
+  if (refused) return `not decided: ${refused.words}. Its words can't be read: see Checks.`;
+  if (broken.length) return `broken: ${broken[0].words}${broken.length > 1 ?
+    `, and ${broken.length - 1} more of ${items.length}` : ''}.`;
+  if (own) return `${held}, also with ${own > 1 ? 'these faults' : 'this fault'}.`;
+  if (!found) return `${held}${isExercise ? ', without faults' : ''}.`;
+  const sets = breaking(found), exercise = isExercise ? sets.length || !found.is_whole ? 'not yet: ' : 'right: ' : '';
+  return `${exercise}${held}, ${sets.length ? `but ${namesInWords(sets.map(it => it.faults[0]))} alone can break it` :
+    found.is_whole ? `also with any single fault (${found.kinds.join(', ')})` :
+      'and no single fault broke it so far'}.`;
 }
+
+/** Says what the checks say, above the run and in the tab. */
+export function sayVerdict() {
+  const {items, survey, pairs} = checks, broken = items.filter(it => it.verdicts.some(isBroken)).length;
+  const {length} = breaking(pairs || survey), breaks = length ? ` · ${count(length, 'fault')} break${length > 1 ? '' :
+    's'} it` : '';
+  checks.words = verdictInWords().replace(/^[a-z]/, it => it.toUpperCase());
+  checks.is = !items.length ? '' : broken ? 'broken' : length ? 'weak' : 'holds';
+  label(items.length ? `Checks ${items.length - broken}/${items.length}${breaks}` : 'Checks',
+    items.length ? broken || length ? 'bad' : 'good' : '');
+  sayOutcome();
+}
+
+const label = (textContent, className = '') => Object.assign(byId('tab-checks'), {textContent, className});
 
 export function beginMeter() {
-  page.mapOverlays.push(drawBreaking);
   const ticked = () => [...byId('kinds').querySelectorAll('input:checked')].map(it => it.value);
-  byId('kinds').append(...KINDS.map(([value]) => element('label', '', [element('input', '', [], {type: 'checkbox', value,
+  byId('kinds').append(...KINDS.map(([value]) => element('label', '', [element('input', '', [],
+    {type: 'checkbox', value,
     onchange: () => change(withKinds(web.history.text, ticked()), 'edit')}), ` ${value}`])));
-  byId('try-single').addEventListener('click', () => survey(1));
-  byId('try-pairs').addEventListener('click', () => survey(2));
+  onClick({'try-single': () => survey(1), 'try-pairs': () => survey(2)});
   page.reactions.outdated.push(() => {
     page.backend.endSurvey();
     label('Checks');
-    if (bareText() !== withoutComments(checks.text, FAULT)) forget();
+    if (bare(web.history.text) !== bare(checks.text)) Object.assign(checks, {survey: null, pairs: null, weak: []});
     byId('survey-progress').hidden = true;
   });
 }

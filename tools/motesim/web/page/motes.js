@@ -1,14 +1,12 @@
-// @ts-check
-// The map as a way to change the scenario, by mouse and by keyboard: motes are moved, added and removed, and links lose
-// packets. Each of these changes the text.
+// The map as a way to change the scenario, by mouse and by keyboard: motes are moved, added and removed, and links
+// lose packets. Each of these changes the text.
 import {chooseMote} from '../../timeline/page/details.js';
-import {byId, element, makeButton} from '../../timeline/page/dom.js';
+import {byId, count, element, makeButton, onClick} from '../../timeline/page/dom.js';
 import {redraw} from '../../timeline/page/draw.js';
 import {drawPath} from '../../timeline/page/forms.js';
 import {delayOf, findHearers} from '../../timeline/page/index.js';
 import {linkInWords} from '../../timeline/page/near.js';
 import {page} from '../../timeline/page/stage.js';
-import {count} from '../../timeline/page/words.js';
 
 const {ground, maps, chosen} = page;
 const ARROWS = {ArrowLeft: [-1, 0], ArrowRight: [1, 0], ArrowUp: [0, -1], ArrowDown: [0, 1]};
@@ -128,7 +126,8 @@ function wayOf(run, s, r) {
     'aria-label': `Losses from mote ${s} to mote ${r}: one packet in this number; empty for no loss`,
     onchange: () => page.edit({what: 'lose', from: s, to: r, every: Math.floor(Number(input.value)) || 0})});
   const fault = `link ${s} to ${r} is broken`, isThere = run.faults.includes(fault);
-  return element('p', `${s} → ${r}: ${count(delayOf(run, s, r), 'moment')}, `, [element('label', 'loses 1 in ', [input]), ' ',
+  return element('p', `${s} → ${r}: ${count(delayOf(run, s, r), 'moment')}, `,
+    [element('label', 'loses 1 in ', [input]), ' ',
     makeButton('broken', () => page.toggleFault(fault), {'aria-pressed': String(isThere), title: fault})]);
 }
 
@@ -161,6 +160,6 @@ function nameRemove() {
 export function beginMotes() {
   page.followers.push(nameRemove);
   page.mapOverlays.push(drawWay);
-  byId('add').addEventListener('click', () => maps.length && setAdding(!ground.adding));
-  byId('remove').addEventListener('click', () => page.edit({what: 'remove', mote: chosen.mote}));
+  onClick({add: () => maps.length && setAdding(!ground.adding), remove: () => page.edit({what: 'remove',
+    mote: chosen.mote})});
 }

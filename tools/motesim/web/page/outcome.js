@@ -1,4 +1,3 @@
-// @ts-check
 // The sentence above the run: what it showed, and what the checks say of it; or why there is none.
 import {byId, makeButton} from '../../timeline/page/dom.js';
 import {Refused, page} from '../../timeline/page/stage.js';
@@ -17,7 +16,8 @@ export function say(words, is = '', buttons = [], offers = []) {
 /** Says what a run showed, and before that what the checks say of it. */
 export function sayOutcome() {
   const {words, is, buttons, offers} = web.outcome, {checks} = page;
-  say([checks.words, checks.words && is === 'same' ? '' : words].filter(Boolean).join(' '), checks.is || is, buttons, offers);
+  say([checks.words, checks.words && is === 'same' ? '' : words].filter(Boolean).join(' '), checks.is || is, buttons,
+    offers);
 }
 
 /** Keeps what a run showed, and says it.

@@ -1,4 +1,3 @@
-// @ts-check
 // A report as columns: the numbers that `Run` takes, and a table of names.
 import {ALL, ARRAYS, FIELDS, KINDS} from '../../timeline/page/data.js';
 

@@ -1,4 +1,3 @@
-// @ts-check
 // The colours of a scenario's rows: tables by their own rules, programs by those of the notation. A statement has the
 // colour of its marks on the lanes.
 

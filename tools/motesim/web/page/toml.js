@@ -1,5 +1,4 @@
-// @ts-check
-// A scenario's text as TOML: its values, and the places of its keys, values and tables.
+// A scenario's text as TOML: its values, and the places of its keys, values, tables and programs.
 
 /** The text isn't TOML, from an offset on. */
 export class NoToml extends Error {
@@ -152,4 +151,37 @@ class Reader {
 export function readToml(text) {
   const {tables, places} = new Reader(text).document();
   return {tables, place: (...path) => places.get(JSON.stringify(path))};
+}
+
+/** The tables of a text; none if it isn't TOML. */
+export function tablesOf(text) {
+  try {
+    return readToml(text).tables;
+  } catch {
+    return {};
+  }
+}
+
+/** The programs with their stretches in a text, each between its quotes; none if it isn't TOML.
+ * @param {string} text @returns {{name: string, begin: number, end: number}[]} */
+export function programsOf(text) {
+  const names = Object.keys(tablesOf(text).programs || {}), {place} = names.length ? readToml(text) :
+    {place: () => null};
+  return names.flatMap(name => {
+    const [from, to] = place('programs', name)?.value || [0, 0];
+    const long = /^('''|""")(\r?\n)?/.exec(text.slice(from, from + 5)), quotes = long ? 3 : 1;
+    return to ? [{name, begin: from + (long ? long[0].length : quotes), end: to - quotes}] : [];
+  });
+}
+
+/** The line and the column of an offset, from 0. @returns {[number, number]} */
+export function lineAndColumn(text, offset) {
+  const before = text.slice(0, offset).split('\n');
+  return [before.length - 1, before[before.length - 1].length];
+}
+
+/** The offset of a line and a column; at most the length of the text. */
+export function offsetOf(text, [line, column]) {
+  const before = text.split('\n').slice(0, line);
+  return Math.min(before.reduce((sum, row) => sum + row.length + 1, column), text.length);
 }

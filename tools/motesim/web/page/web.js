@@ -1,56 +1,44 @@
-// @ts-check
-// The page on which a scenario is written: it runs while it is changed, with its map, its lanes, and the effect of each
-// change in a sentence. A backend runs the texts.
+// The page on which a scenario is written: it runs while it is changed, with its map, its lanes, and the effect of
+// each change in a sentence. A backend runs the texts.
 import {selectNothing} from '../../timeline/page/details.js';
-import {byId, element} from '../../timeline/page/dom.js';
+import {byId, count, onClick} from '../../timeline/page/dom.js';
 import {drawAll} from '../../timeline/page/draw.js';
 import {beginDrawer, showSums} from '../../timeline/page/drawer.js';
 import {readColours} from '../../timeline/page/forms.js';
 import {showInstead, showRuns, whole} from '../../timeline/page/main.js';
 import {setNow, startPlaying, stopPlaying} from '../../timeline/page/play.js';
 import {page} from '../../timeline/page/stage.js';
-import {beginTabs} from '../../timeline/page/tabs.js';
-import {count} from '../../timeline/page/words.js';
 import {firstSentence} from './comments.js';
+import {beginGallery, beginOpening, showSharing} from './dialogs.js';
 import {difference, drawDifference, effectInWords, goToDifference} from './diff.js';
 import {edit} from './edits.js';
-import {markFault, sayFault, showFault} from './errors.js';
-import {beginGallery} from './gallery.js';
-import {beginFiles, showSharing} from './keeping.js';
+import {drawFault, showFault} from './errors.js';
 import {beginMotes, renewMotes, restoreMotes, sayOnMap} from './motes.js';
 import {attempt, reverting, say, setOutcome} from './outcome.js';
 import {Pad} from './pad.js';
-import {programsOf} from './scenario.js';
-import {lineAndColumn, offsetOf} from './text.js';
+import {lineAndColumn, programsOf} from './toml.js';
 
-/** Milliseconds from a key to its run, to the sign of a long run, and to the keeping of the text. */
-const PAUSE = 150, LONG = 500, KEEP = 1000;
+/** Milliseconds from a key to its run, to words about an error, to the sign of a long run, and to the keeping of the
+ * text. */
+const PAUSE = 150, CALM = 700, LONG = 500, KEEP = 1000;
 
 const {web} = page;
 const react = (name, ...words) => page.reactions[name].forEach(does => does(...words));
 
-/** Says what the text is about, and where it came from; and offers the change of an example. */
+/** Says what the text is about, and where it came from; and offers the change of an example that is as it was opened. */
 function sayIntro() {
-  const {example, intro, history, document} = web;
+  const {intro, history, document, saved} = web, example = history.text === saved ? web.example : null;
   if (example) byId('try').textContent = example.try;
-  setOutcome(example?.about || [intro, firstSentence(history.text)].filter(Boolean).join(' ') || `This is ${document.name}.`, '',
-    example?.replace ? ['try'] : []);
+  setOutcome(example?.about || [intro, firstSentence(history.text)].filter(Boolean).join(' ') ||
+    `This is ${document.name}.`, '', example?.replace ? ['try'] : []);
 }
 
 // The text.
 
-/** Shows the text in the part that is open. */
+/** Shows the text; a new one from its first program on. */
 function showText(isNew = false) {
-  const {text} = web.history, programs = programsOf(text), which = byId('which');
-  const names = programs.map(it => it.name), kept = names.includes(which.value) ? which.value : names[0];
-  if (names.join() !== [...which.options].map(it => it.value).join()) {
-    which.replaceChildren(...names.map(name => element('option', name, [], {value: name})));
-    which.value = kept;
-  }
-  const shown = web.part === 'part-program' && programs.find(it => it.name === kept) || {begin: 0, end: text.length};
-  which.hidden = names.length < 2 || web.part !== 'part-program';
-  byId('editor').setAttribute('aria-labelledby', web.part);
-  web.pad.show(text, shown.begin, shown.end, isNew);
+  const {text} = web.history, [program] = isNew ? programsOf(text) : [];
+  web.pad.show(text, program ? Math.max(0, lineAndColumn(text, program.begin)[0] - 1) : isNew ? 0 : -1);
   nameSteps();
 }
 
@@ -133,14 +121,6 @@ function makeTry() {
   pad.lightRow(lineAndColumn(text, text.indexOf(pieces[0][1]))[0]);
 }
 
-/** Selects a stretch of a row of the whole text. */
-export function goTo(row, from, to) {
-  const {history: {text}, pad} = web, at = offsetOf(text, [row, 0]);
-  if (at < pad.before.length || at > text.length - pad.behind.length) byId('part-all').click();
-  const begin = offsetOf(text, [row, from]) - pad.before.length;
-  pad.select(begin, begin + to - from);
-}
-
 // Runs.
 
 /** Runs the text, and shows its run, its error, or its limit. */
@@ -152,6 +132,9 @@ export async function runNow() {
   if (answer?.superseded || asked !== web.asked) return;
   web.ran = asked;
   byId('stop').hidden = true;
+  // (while the reader types a word, it isn't called an error yet)
+  if (answer?.fault && step.how === 'typed') await new Promise(done => setTimeout(done, step.at + CALM - Date.now()));
+  if (asked !== web.asked) return;
   document.body.classList.toggle('stale', !answer?.run);
   if (answer?.run) await showRun(answer, step);
   else if (answer?.fault) attempt(() => showFault(answer.fault, step.text));
@@ -162,13 +145,14 @@ export async function runNow() {
 
 /** Says that a run was stopped. */
 function showLimit({limit}) {
-  markFault();
+  drawFault();
   say(`${limit} Does a loop repeat without waiting, or is the net too large?`, 'bad', reverting());
 }
 
 async function showRun({run, number, took}, step) {
-  const {history} = web, {ranBefore: before} = history, found = before && /** @type {any} */ (difference(before.run, run));
-  markFault();
+  const {history} = web, {ranBefore: before} = history, found = before && /** @type {any} */ (difference(before.run,
+    run));
+  drawFault();
   history.keep(step, run);
   web.number = number;
   page.differs = {first: found?.first, parts: new Map(found?.parts)};
@@ -177,8 +161,9 @@ async function showRun({run, number, took}, step) {
   showSums();
   byId('about').textContent = `${count(run.begins.length, 'mote')}, ${count(run.end + 1, 'moment')}` +
     (took === undefined ? '' : `, ${Math.max(1, Math.round(took))} ms`);
+  const isChanged = found && before.text !== step.text;
   if (web.fresh) beginShow();
-  else if (found && before.text !== step.text) {
+  if (isChanged) {
     setOutcome(effectInWords(run, before.run, found), found.same ? 'same' : 'differs', [found.first && 'show', 'revert']);
     // (the button that was pressed is hidden now)
     if (document.activeElement === document.body && step.how === 'try') byId('revert').focus();
@@ -194,7 +179,6 @@ function beginShow() {
   web.fresh = false;
   whole();
   selectNothing();
-  sayIntro();
   stopPlaying();
   byId('try').classList.toggle('breathes', Boolean(example));
   if (!example?.speed) return setNow(0);
@@ -206,7 +190,7 @@ function beginShow() {
 // The page.
 
 function beginButtons() {
-  for (const [id, does] of Object.entries({
+  onClick({
     undo: () => go(-1), redo: () => go(1), try: makeTry, stop: () => page.backend.stop(),
     share: () => showSharing(web.history.text, web.document.name),
     help: () => byId('reference').showModal(),
@@ -218,17 +202,8 @@ function beginButtons() {
       stopPlaying();
       goToDifference();
     },
-    'fault-place': () => goTo(.../** @type {[number, number, number]} */ (web.pad.place)),
+    'fault-place': () => web.pad.select(...web.fault.place),
     'fault-correct': () => change(web.fault.corrected, 'edit'),
-  })) byId(id).addEventListener('click', does);
-  byId('which').addEventListener('change', () => {
-    showText(true);
-    if (web.fault) sayFault();
-  });
-  beginTabs('parts', id => {
-    web.part = id;
-    showText(true);
-    if (web.fault) sayFault();
   });
   document.addEventListener('keydown', event => {
     if (!(event.ctrlKey || event.metaKey) || event.altKey || document.querySelector('dialog[open]')) return;
@@ -243,23 +218,22 @@ function beginButtons() {
   }, true);
 }
 
-/** Begins the page with its examples, of which some have cards, and the words of the notation. Returns the examples,
- * those with a card first. `drafts` lists the reader's own texts.
+/** Begins the page with its examples, of which some have cards, the words of the notation and the rules of
+ * corrections. Returns the examples, those with a card first.
  * @param {import('../../timeline/page/stage.js').Backend} backend */
-export function begin(backend, {cards, texts, words}, drafts = () => /** @type {any[]} */ ([])) {
+export function begin(backend, {cards, texts, words, corrections: {keys}}) {
   const others = Object.keys(texts).filter(file => !cards.some(it => it.file === file)).map(file => ({file}));
   const examples = [...cards, ...others].map(it => ({...it, text: texts[it.file]}));
   readColours();
   page.backend = Object.assign(backend, {words});
-  page.goToLine = line => goTo(line - 1, 0, (web.history.text.split('\n')[line - 1] || '').length);
-  web.pad = new Pad(text => change(text, 'typed'), words);
+  page.goToLine = line => web.pad.select(line - 1, 0, (web.history.text.split('\n')[line - 1] || '').length);
+  web.pad = new Pad(text => change(text, 'typed'), {...words, keys});
   beginButtons();
   page.overlays.push(drawDifference);
   page.edit = changeByMap;
   beginMotes();
-  beginGallery(examples, openExample, () => drafts().filter(it => it.text !== web.history.text), draft =>
-    open({where: '', ...draft}, {intro: 'This is a text of yours.'}));
-  beginFiles((text, name) => open({where: '', name, text}, {intro: `This is ${name}.`}), words => say(words, 'bad'));
+  beginGallery(examples, openExample, draft => open({where: '', ...draft}, {intro: 'This is a text of yours.'}));
+  beginOpening((text, name) => open({where: '', name, text}, {intro: `This is ${name}.`}), words => say(words, 'bad'));
   beginDrawer();
   window.addEventListener('pagehide', () => {
     keepNow();

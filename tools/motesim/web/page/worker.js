@@ -1,4 +1,3 @@
-// @ts-check
 // The worker of the page: gives a module one input at a time, and reads a report into columns. The script
 // web/run_module.js is in front of this one.
 import {columnsOf} from './report.js';
@@ -10,7 +9,8 @@ class TooLong extends Error {}
 
 /** The answer to an input: columns, or the text that was written; the line of an error; or a limit. */
 function answerTo(module, text, isReport) {
-  const streams = {1: /** @type {Uint8Array[]} */ ([]), 2: /** @type {Uint8Array[]} */ ([])}, begin = performance.now();
+  const streams = {1: /** @type {Uint8Array[]} */ ([]), 2: /** @type {Uint8Array[]} */ ([])},
+    begin = performance.now();
   let length = 0;
   const write = (stream, bytes) => {
     length += bytes.length;

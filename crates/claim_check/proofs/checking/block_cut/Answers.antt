@@ -1,6 +1,6 @@
 use Rattle.std.proofs.Common.{◌≡◌, None, ap, ◌∙◌}
 use Rattle.std.proofs.lemmas.Result.{IfOk-weaker}
-use Rattle.worker_cut.specs.Cut.{block_cut}
+use Rattle.copy_exchange.specs.Cut.{block_cut}
 use Rattle.window_workers.specs.Fits.{cut_fault}
 use Rattle.simulation.proofs.Cuts.{block_fits}
 use Rattle.claim_check.proofs.checking.block_cut.Goals as goal

@@ -1,5 +1,5 @@
 use Rattle.std.proofs.Common.{◌≡◌, ◌++◌, map, take}
-use Rattle.fault_keys.specs.declared.candidates.CopyFault.TheVariants.{Late}
+use Rattle.fault_keys.specs.declared.keys.CopyFault.TheVariants.{Late}
 use Rattle.claim_check.proofs.command.put_late.Given as goal
 
 abbrev pub invariant-loop-delay : goal.invariant-loop-delay

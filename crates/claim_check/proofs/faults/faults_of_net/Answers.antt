@@ -1,6 +1,6 @@
 use Rattle.std.proofs.Common.{◌≡◌, ◌∙◌, ap, rules, subst, sym}
 use Rattle.std.proofs.lemmas.Result.{err_from_is_err_and}
-use Rattle.fault_text.specs.FaultLines.{IsRead, Refuses}
+use Rattle.radio_faults.specs.FaultLines.{IsRead, Refuses}
 use Rattle.mote_net.specs.Meaning.{net_of}
 use Rattle.claim_check.specs.Faults.{first_missing}
 use Rattle.claim_check.proofs.faults.faults_of_net.Goals as goal

@@ -1,5 +1,5 @@
 use Rattle.std.proofs.Common.{◌∙◌, Ok, inl, rules, subst}
-use Rattle.simulation.specs.Reads.{IsRefused, ReadsText}
+use Rattle.simulation.specs.Reads.{IsInputFault, ReadsText}
 use Rattle.simulation.proofs.Lines.{for_some}
 use Rattle.claim_check.specs.Command.{ends}
 use Rattle.claim_check.specs.Input.{ServesInput, ServesText}
@@ -22,6 +22,6 @@ returns-in-Err g c =
     let new = ends (g.W.Write.contents c.args.output.now) (g.E.Write.contents c.status_of.new.errors) in
     record {
       serves =
-          for_some (g.R.Read.remaining c.args.input.now) (λ bytes. IsRefused bytes c.in-Err.error) (λ bytes. ServesInput bytes old new c.status_of.result) c.in-Err.ensures.matches
+          for_some (g.R.Read.remaining c.args.input.now) (λ bytes. IsInputFault bytes c.in-Err.error) (λ bytes. ServesInput bytes old new c.status_of.result) c.in-Err.ensures.matches
           (λ bytes refused. by_input bytes old new c.status_of.result c.in-Err.error refused (search rules) c.status_of.ensures.status c.status_of.ensures.line);
     }

@@ -1,6 +1,6 @@
 use Rattle.std.proofs.Common.{◌≡◌, None, ap, ◌∙◌}
 use Rattle.std.proofs.lemmas.Result.{IfOk-weaker}
-use Rattle.worker_cut.specs.Cut.{block_cut, stripe_cut}
+use Rattle.copy_exchange.specs.Cut.{block_cut, stripe_cut}
 use Rattle.window_workers.specs.Fits.{cut_fault}
 use Rattle.simulation.proofs.Cuts.{block_fits, stripe_fits}
 use Rattle.simulation.proofs.by_workers.cut_of.Goals as goal

@@ -3,7 +3,7 @@ use Rattle.std.specs.List.{sum_by, AllByRecursion as Each}
 use Rattle.net_agenda.proofs.Systems.{system_is}
 use Rattle.copy_exchange.specs.Takers.{taken_by, gathered_by}
 use Rattle.copy_exchange.specs.Inboxes.{IsSettled}
-use Rattle.worker_window.specs.declared.share.Ended.{Ended}
+use Rattle.worker_window.specs.declared.share.EndedShare.{EndedShare}
 use Rattle.mote_net.specs.declared.report.Report.{Report}
 use Rattle.mote_net.specs.Report.{report_of}
 use Rattle.window_workers.specs.Crossed.{Pair, AllCrossed}
@@ -40,8 +40,8 @@ returns-clause-report c = λ n end.
     reported_equals n end.sound.0 end.sound.1 c.args.owners.now c.args.group end.at c.in_ok-ended.ended.items c.in_ok-ended.ensures.tells_what_it_kept r
     (traces_kept c.args.owners.now c.in_ok-ended.ended.items c.in_ok-medium.rest.items c.in_ok-traces.traces.items c.in_ok-medium.ensures.traces c.in_ok-traces.ensures.are_traces_of)
     (c.in_ok-medium.ensures.log n (all_fates n (system_is n end.sound.0 end.sound.1) c.args.owners.now c.args.group end.at c.in_ok-ended.ended.items c.in_ok-ended.ensures.tells_what_it_kept))
-    (subst (λ l. sum_by (λ (one : Ended). one.left) c.in_ok-ended.ended.items + sum_by (λ (pair : Pair). length (gathered_by pair.1)) l ≡ c.in_ok-left.left + sum_by (λ (pair : Pair). length (taken_by pair.1)) l) (c.deref-2.ensures.value ∙ c.in-Ok.ensures.pairs)
-    (subst (λ l. sum_by (λ (one : Ended). one.left) l + sum_by (λ (pair : Pair). length (gathered_by pair.1)) c.deref-2.result.now ≡ c.in_ok-left.left + sum_by (λ (pair : Pair). length (taken_by pair.1)) c.deref-2.result.now) c.deref.ensures.value c.in_ok-left.ensures.balanced))
+    (subst (λ l. sum_by (λ (one : EndedShare). one.left) c.in_ok-ended.ended.items + sum_by (λ (pair : Pair). length (gathered_by pair.1)) l ≡ c.in_ok-left.left + sum_by (λ (pair : Pair). length (taken_by pair.1)) l) (c.deref-2.ensures.value ∙ c.in-Ok.ensures.pairs)
+    (subst (λ l. sum_by (λ (one : EndedShare). one.left) l + sum_by (λ (pair : Pair). length (gathered_by pair.1)) c.deref-2.result.now ≡ c.in_ok-left.left + sum_by (λ (pair : Pair). length (taken_by pair.1)) c.deref-2.result.now) c.deref.ensures.value c.in_ok-left.ensures.balanced))
 
 pub returns-clause-inboxes : goal.returns-clause-inboxes
 returns-clause-inboxes c = ap (map (λ (pair : Pair). pair.0)) c.in-Ok.ensures.pairs ∙ firsts IsSettled c.args.group.inboxes.items c.args.group.takers.items c.requires.at_end.1.at.settled

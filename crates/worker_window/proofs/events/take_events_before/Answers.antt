@@ -2,7 +2,7 @@ use Rattle.std.proofs.Common.{◌≡◌, ◌∙◌, ◌<◌, ◌++◌, ◌∷◌
 use Rattle.std.proofs.lemmas.List.{length-set}
 use Rattle.net_agenda.specs.Buckets.{HoldsItems}
 use Rattle.net_agenda.specs.Items.{copy_at}
-use Rattle.worker_window.specs.Events.{are_different, copies_at, copies_of, is_called, is_one_of}
+use Rattle.worker_window.specs.Events.{are_different, copies_at, held_copies, is_called, is_one_of}
 use Rattle.worker_window.specs.MoteWindow.{is_rising}
 use Rattle.worker_window.specs.Share.{mote_here}
 use Rattle.worker_window.proofs.Given.{same_refl, same_still, more_here, else_same, still_there, called_else, called_now, different_then, calls_then, others_then}
@@ -66,7 +66,7 @@ give-requires-clause-rising c =
     let low : c.from.result < length now = subst (λ i. i < length now) (sym c.from.ensures) (some_within now m still) in
     let rises = is_rising_from _ (rises_more c.args.until can.items (copies_at now) (λ j. is_one_of j c.loop-moment.called.items) c.loop-moment.agenda.buckets own c.in-Some.moment m
     (c.in-Some.ensures.least own.rest own.holds) c.if-moment-until.false c.take_due_into.new.arrivals.items (c.in_ok-take_due_into.ensures.copies own.rest own.holds)) in
-    let given : copies_at now m ≡ copies_of c.index_mut.result.now = ap (copies_at now) (sym c.from.ensures) ∙ ap copies_of (at_place now c.from.result c.index_mut.result.now None c.index_mut.ensures.value low) in
+    let given : copies_at now m ≡ held_copies c.index_mut.result.now = ap (copies_at now) (sym c.from.ensures) ∙ ap held_copies (at_place now c.from.result c.index_mut.result.now None c.index_mut.ensures.value low) in
     subst (λ l. is_rising (l ++ map (copy_at c.in-Some.moment m) c.deref.result.now) ≡ true) given (subst (λ l. is_rising (copies_at now m ++ map (copy_at c.in-Some.moment m) l) ≡ true) (sym c.deref.ensures.value) rises)
 
 pub loop-moment-preserved : goal.loop-moment-preserved
@@ -84,7 +84,7 @@ loop-moment-preserved c =
     c.take_due_into.new.arrivals.items (c.in_ok-take_due_into.ensures.copies own.rest own.holds) (λ j. is_some (mote_here first j)) can.there in
     let low : k < length now = subst (λ i. i < length now) (sym c.from.ensures) (some_within now m (still_there (mote_here first m) (mote_here now m) (inv.same m) there)) in
     let more = map (copy_at c.in-Some.moment m) c.take_due_into.new.arrivals.items in
-    let added : copies_of new ≡ copies_of old ++ more = c.in_ok-first.ensures.given ∙ ap (λ l. copies_of old ++ map (copy_at c.in-Some.moment m) l) c.deref.ensures.value in
+    let added : held_copies new ≡ held_copies old ++ more = c.in_ok-first.ensures.given ∙ ap (λ l. held_copies old ++ map (copy_at c.in-Some.moment m) l) c.deref.ensures.value in
     let after = c.call.new.called.items in
     let after_is : after ≡ (if c.in_ok-first.first then c.loop-moment.called.items ++ k ∷ [] else c.loop-moment.called.items) =
     c.in_ok-call.ensures.called ∙ ap (λ i. if c.in_ok-first.first then c.loop-moment.called.items ++ i ∷ [] else c.loop-moment.called.items) (sym c.from.ensures) in

@@ -8,7 +8,7 @@ use Rattle.window_laws.specs.Agenda.{Packet}
 use Rattle.window_laws.proofs.Lists.{every_append}
 use Rattle.net_agenda.specs.Buckets.{HoldsItems}
 use Rattle.mote_net.specs.declared.report.LogLine.{LogLine}
-use Rattle.worker_cut.specs.Crossed.{is_own, is_for_others}
+use Rattle.copy_exchange.specs.Crossed.{is_own, is_for_others}
 use Rattle.worker_window.specs.Log.{HaveFates, packets_in}
 use Rattle.worker_window.proofs.Sends.{more_sends, more_sent_own, more_sent_away}
 use Rattle.worker_window.proofs.window.send_all.Goals as goal

@@ -7,7 +7,7 @@ use Rattle.radio_medium.specs.Medium.{copy_of}
 use Rattle.window_laws.specs.Agenda.{Packet}
 use Rattle.net_agenda.specs.Buckets.{HoldsItems}
 use Rattle.net_agenda.specs.Changes.{AddsItems}
-use Rattle.worker_cut.specs.Crossed.{is_own, is_for_others}
+use Rattle.copy_exchange.specs.Crossed.{is_own, is_for_others}
 use Rattle.worker_window.specs.Sending.{outgoing_copies, own_items}
 use Rattle.worker_window.proofs.Sends.{more_own, more_away, all_own, none_away, on_ok}
 use Rattle.worker_window.proofs.window.send_fates.Goals as goal

@@ -2,12 +2,12 @@ use Rattle.std.proofs.Common.{◌∙◌, ap, sym, arith, ◌<◌, ◌≤◌, ◌
 use Rattle.std.specs.List.{flat_map}
 use Rattle.std.proofs.lemmas.List.{drop_all}
 use Rattle.mote_net.specs.Report.{report_of}
-use Rattle.claims.specs.declared.trace.Watch.{Watch}
+use Rattle.claims.specs.declared.trace.Watched.{Watched}
 use Rattle.claims.specs.PerMote.{counted_in}
 use Rattle.claims.proofs.PickLaws.{get-here, get-later, wanted-by-watch, length-counted}
 use Rattle.claims.proofs.lines.Lines.line_at.Goals as goal
 
-abbrev no_watch : Watch
+abbrev no_watch : Watched
 no_watch = record { mote = 0; when = record { from = 0; to = 0 } }
 
 pub returns-then-left-count : goal.returns-then-left-count

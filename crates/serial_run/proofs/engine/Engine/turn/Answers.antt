@@ -1,12 +1,8 @@
 use Rattle.std.proofs.Common.{◌≡◌, ◌<◌, ◌≤◌, ◌^◌, ◌∙◌, ap, sym, subst, arith, length, not, map, get_or, slice_set, List, ◌++◌}
-use Rattle.std.specs.Prelude.{IfSome}
 use Rattle.std.specs.List.{AllByRecursion, filter}
 use Rattle.std.proofs.lemmas.List.Elements.{recursion_from_All}
 use Rattle.window_laws.proofs.Lists.{every_weaker}
-use Rattle.program_tree.specs.Code.{Tree}
-use Rattle.program_tree.specs.Program.{tree_of}
-use Rattle.mote_node.specs.Turn.{Node}
-use Rattle.mote_node.specs.Public.{node_in, turn_out_of}
+use Rattle.mote_node.specs.Public.{turn_out_of}
 use Rattle.mote_net.specs.Meaning.{net_of}
 use Rattle.radio_medium.specs.Medium.{Radio}
 use Rattle.radio_packet.specs.declared.sent.Sent.{Sent}
@@ -14,23 +10,9 @@ use Rattle.window_laws.specs.Agenda.{Item, Packet, comes_at, is_wake_of, wake_it
 use Rattle.net_agenda.specs.Buckets.{HoldsItems}
 use Rattle.mote_net.specs.Report.{line_model}
 use Rattle.serial_run.specs.FaultRun.{packet_with}
-use Rattle.net_agenda.proofs.Systems.{tree_is}
 use Rattle.serial_run.specs.Counted.{all_copies}
-use Rattle.serial_run.specs.OnTime.{CanTurn}
 use Rattle.serial_run.proofs.Steps.{in_state_turn, wake_to_drop, sent_of}
 use Rattle.serial_run.proofs.engine.Engine.turn.Goals as goal
-
-pub turn_mote-requires-clause-ready : goal.turn_mote-requires-clause-ready
-turn_mote-requires-clause-ready c = λ d.
-    let n = net_of c.args.net.now in
-    let P : Tree → Type 0 = λ t. CanTurn c.args.moment (node_in t (get_or c.args.self.now.motes.items c.args.number d)) in
-    subst P (sym (tree_is n.motes c.args.number (tree_of c.program.result.now) c.program.ensures.tree)) (c.requires.ready d)
-
-pub turn_mote-requires-clause-numbered : goal.turn_mote-requires-clause-numbered
-turn_mote-requires-clause-numbered c = λ d.
-    let n = net_of c.args.net.now in
-    let P : Tree → Type 0 = λ t. IfSome (node_in t (get_or c.args.self.now.motes.items c.args.number d)) (λ (x : Node). x.mote.state.mote ≡ c.args.number) in
-    subst P (sym (tree_is n.motes c.args.number (tree_of c.program.result.now) c.program.ensures.tree)) (c.requires.numbered d)
 
 pub send_all-requires : goal.send_all-requires
 send_all-requires c =
@@ -59,8 +41,8 @@ returns-clause-in_state c = λ state at.
     let next = c.in_ok-next.next in
     let base : List Item = filter (λ item. not (is_wake_of m item)) (filter (λ item. not (comes_at t m item)) state.agenda) ++ wake_items m next in
     let sent = c.in_ok-send_all.ensures.agenda _ woken in
-    in_state_turn faults n t m state c.args.self.now _ (tree_of c.program.result.now) c.deref.result.now (turn_out_of c.turn_mote.new.out next) c.requires.mote_exists c.requires.is_whole at
-    (tree_is n.motes m (tree_of c.program.result.now) c.program.ensures.tree) (c.deref.ensures.value ∙ c.in_ok-take_due_into.ensures.copies state.agenda at.agenda)
+    in_state_turn faults n t m state c.args.self.now _ c.deref.result.now (turn_out_of c.turn_mote.new.out next) c.requires.mote_exists c.requires.is_whole at
+    (c.deref.ensures.value ∙ c.in_ok-take_due_into.ensures.copies state.agenda at.agenda)
     takes (ap (λ k. slice_set wakes k next) c.from-2.ensures) c.in_ok-next.ensures.stamped c.in_ok-add_lines.ensures.adds_lines
     (sent_of (λ (r : Radio) (s : List Sent). HoldsItems c.send_all.new.agenda.buckets (base ++ map Packet (all_copies faults r s))) c.medium.ensures.value c.deref-2.ensures.value sent)
     (sent_of (λ (r : Radio) (s : List Sent). map line_model c.send_all.new.log.items ≡ map line_model c.args.self.now.log.items ++ map (packet_with faults r) s) c.medium.ensures.value c.deref-2.ensures.value c.in_ok-send_all.ensures.log)

@@ -3,14 +3,14 @@ use Rattle.mote_net.specs.Meaning.{net_of}
 use Rattle.std.specs.List.{AllByRecursion as Each}
 use Rattle.copy_exchange.specs.Inboxes.{HasNoMarks}
 use Rattle.net_agenda.specs.NetSystem.{system_of}
-use Rattle.window_workers.specs.WorkerGroup.{IsAt}
+use Rattle.window_workers.specs.WorkerGroup.{WorkersAreAt}
 use Rattle.window_workers.specs.JoinedRun.{BeginsAt, GroupRunsWindows}
 use Rattle.window_workers.specs.WindowLength.{length_of_window}
 use Rattle.window_workers.proofs.joins.run.run_by_joins.Given as goal
 
 abbrev pub invariant-windows : goal.invariant-windows
 invariant-windows g l = record {
-  at : IsAt (net_of l.net) l.owners l.from l.group;
+  at : WorkersAreAt (net_of l.net) l.owners l.from l.group;
   plain : Each HasNoMarks l.group.takers.items;
   early : l.from ≤ l.end + 1;
   inboxes : l.group.inboxes.items ≡ l.fn.group.inboxes.items;

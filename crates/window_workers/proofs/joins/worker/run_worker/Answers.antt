@@ -4,7 +4,7 @@ use Rattle.radio_packet.specs.declared.copy.RadioCopy.{RadioCopy}
 use Rattle.mote_net.specs.Meaning.{net_of}
 use Rattle.copy_exchange.specs.Takers.{taken_by, gathered_by}
 use Rattle.copy_exchange.proofs.Delivered.{endpoint_again}
-use Rattle.worker_cut.specs.Crossed.{is_own}
+use Rattle.copy_exchange.specs.Crossed.{is_own}
 use Rattle.worker_window.specs.Window.{RunsWindow, IsOutgoing}
 use Rattle.window_workers.proofs.Sent.{leaves_sent}
 use Rattle.window_workers.proofs.JoinedArrived.{arrived_have}

@@ -7,13 +7,13 @@ use Rattle.window_laws.proofs.Lists.{every_weaker}
 use Rattle.copy_inbox.specs.Gathered.{Whole}
 use Rattle.copy_inbox.specs.Handles.{TakerView}
 use Rattle.window_workers.specs.WindowLength.{length_of_window}
-use Rattle.window_workers.specs.WorkerGroup.{IsAt}
+use Rattle.window_workers.specs.WorkerGroup.{WorkersAreAt}
 use Rattle.window_workers.specs.declared.worker.Worker.{Worker}
 use Rattle.window_workers.specs.declared.group.WorkerGroup.{WorkerGroup}
 use Rattle.window_workers.proofs.Starts.{all_settled}
 use Rattle.window_workers.specs.MarkedBounds.{windows_of}
 use Rattle.window_workers.specs.MarkedRun.{GroupRunsMarked}
-use Rattle.window_workers.specs.MarkedThread.{IsFirst}
+use Rattle.window_workers.specs.MarkedThread.{IsBeforeFirstWindow}
 use Rattle.window_workers.proofs.MarkedCrossing.{runner_sync}
 use Rattle.window_workers.proofs.MarkedReady.{ready, together_first, none_gathered_first}
 use Rattle.window_workers.proofs.MarkedRuns.{all_back, all_on_inboxes, ended}
@@ -37,7 +37,7 @@ run_threads-requires-clause-ready g c κs within =
     let wide = c.window_length-width.ensures.above_zero in
     let short = subst (λ l. width ≤ l) c.lookahead_of.ensures.value c.window_length-width.ensures.within in
     rw (c.deref.ensures.value, c.deref-2.ensures.value) (λ workers made.
-    every_weaker (IsFirst n owners ids) (λ (worker : Worker). (0 < width) × (width ≤ (system_of n).lookahead) × IsFirst n owners ids worker) (λ worker first. (wide, short, first)) workers
+    every_weaker (IsBeforeFirstWindow n owners ids) (λ (worker : Worker). (0 < width) × (width ≤ (system_of n).lookahead) × IsBeforeFirstWindow n owners ids worker) (λ worker first. (wide, short, first)) workers
     (ready ids c.args.group.takers.items c.args.group.shares.items workers made c.requires.ready.fresh n owners c.requires.ready.cut c.requires.ready.first c.requires.marked))
 
 pub gather_back-requires-clause-workers : goal.gather_back-requires-clause-workers
@@ -80,7 +80,7 @@ ran g c =
     }
 
 -- so the workers are at the end
-at_end : (g : _) (c : goal.In-Ok g) → IsAt (net_of c.args.net.now) c.args.owners.now (suc (net_of c.args.net.now).end) (after g c) × Each (λ (t : TakerView). Whole t.state.gathered t.state.taken) c.in-Ok.takers.items
+at_end : (g : _) (c : goal.In-Ok g) → WorkersAreAt (net_of c.args.net.now) c.args.owners.now (suc (net_of c.args.net.now).end) (after g c) × Each (λ (t : TakerView). Whole t.state.gathered t.state.taken) c.in-Ok.takers.items
 at_end g c =
     let short = subst (λ l. c.window_length-width.result ≤ l) c.lookahead_of.ensures.value c.window_length-width.ensures.within in
     ended (net_of c.args.net.now) c.lookahead_of.ensures.forward c.args.owners.now c.window_length-width.result c.window_length-width.ensures.above_zero short c.args.group (after g c) c.requires.ready.cut (ran g c)

@@ -1,7 +1,7 @@
 use Rattle.std.proofs.Common.{◌∙◌}
 use Rattle.window_laws.specs.Agenda.{packets}
 use Rattle.net_agenda.specs.NetSystem.{tree_at}
-use Rattle.worker_window.specs.Share.{IsAtRest, mote_here}
+use Rattle.worker_window.specs.Share.{IsBetweenWindows, mote_here}
 use Rattle.worker_window.proofs.Places.{some_with, some_within}
 use Rattle.worker_window.proofs.Traces.{all_kept, rest_lines, trace_at}
 use Rattle.worker_window.proofs.share.Share.end.Goals as goal
@@ -17,7 +17,7 @@ returns c = record {
         traces_kept = all_kept traces all are ∙ keeps.places;
         traces = λ k mine d.
             let there = keeps.rests k mine in
-            trace_at traces all are k (some_within all k (some_with (IsAtRest (tree_at n k) (motes k)) (mote_here all k) there)) d ∙ rest_lines (tree_at n k) (motes k) (mote_here all k) there;
+            trace_at traces all are k (some_within all k (some_with (IsBetweenWindows (tree_at n k) (motes k)) (mote_here all k) there)) d ∙ rest_lines (tree_at n k) (motes k) (mote_here all k) there;
         log = keeps.log;
         fates = keeps.fates;
         rest = packets keeps.agenda.items;

@@ -5,8 +5,8 @@ use Rattle.mote_net.specs.Meaning.{net_of}
 use Rattle.window_laws.specs.Agenda.{Wake, up_to}
 use Rattle.net_agenda.specs.Buckets.{HoldsItems}
 use Rattle.net_agenda.proofs.Boots.{pushed}
-use Rattle.worker_cut.specs.Crossed.{is_own}
-use Rattle.worker_window.specs.Share.{IfOwn, IsFirst}
+use Rattle.copy_exchange.specs.Crossed.{is_own}
+use Rattle.worker_window.specs.Share.{IfOwn, IsBeforeFirstTurn}
 use Rattle.worker_window.proofs.Begins.{wakes_more, begins}
 use Rattle.worker_window.proofs.share.Share.new.Goals as goal
 
@@ -22,8 +22,8 @@ loop-number-preserved c =
       is_worker = inv.is_worker;
       motes = (let e = inv.motes in omega arith);
       firsts =
-          pushed (λ k (m : Option OwnWindow). IfOwn (is_own owners worker k) m (IsFirst n k)) c.loop-number.share.motes.items _ c.in_ok-mote.mote i
-          c.in_ok-push.ensures.items inv.motes inv.firsts (subst (λ b. IfOwn b c.in_ok-mote.mote (IsFirst n i)) c.is_own-own.ensures.value c.in_ok-mote.ensures.mote);
+          pushed (λ k (m : Option OwnWindow). IfOwn (is_own owners worker k) m (IsBeforeFirstTurn n k)) c.loop-number.share.motes.items _ c.in_ok-mote.mote i
+          c.in_ok-push.ensures.items inv.motes inv.firsts (subst (λ b. IfOwn b c.in_ok-mote.mote (IsBeforeFirstTurn n i)) c.is_own-own.ensures.value c.in_ok-mote.ensures.mote);
       log = inv.log;
       agenda = subst (λ l. HoldsItems c.begin.new.agenda.buckets l) (wakes_more (is_own owners worker) c.is_own-own.result i c.is_own-own.ensures.value) (c.in_ok-mote.ensures.wake _ inv.agenda);
     }

@@ -5,7 +5,7 @@ use Rattle.radio_medium.specs.Medium.{copies}
 use Rattle.window_laws.specs.Agenda.{Packet, wake_items}
 use Rattle.net_agenda.specs.Buckets.{HoldsItems}
 use Rattle.net_agenda.specs.Changes.{without_wakes}
-use Rattle.worker_cut.specs.Crossed.{is_own, is_for_others}
+use Rattle.copy_exchange.specs.Crossed.{is_own, is_for_others}
 use Rattle.worker_window.specs.Log.{packets_in}
 use Rattle.worker_window.specs.Resting.{HasSent}
 use Rattle.worker_window.specs.Share.{mote_here}

@@ -10,7 +10,7 @@ use Rattle.window_laws.proofs.Lists.{every_append}
 use Rattle.net_agenda.specs.Buckets.{HoldsItems}
 use Rattle.net_agenda.specs.NetSystem.{tree_at}
 use Rattle.net_agenda.proofs.Gathered.{zero_from}
-use Rattle.worker_cut.specs.Crossed.{is_own, is_for_others}
+use Rattle.copy_exchange.specs.Crossed.{is_own, is_for_others}
 use Rattle.worker_window.specs.declared.own.OwnWindow.{OwnWindow}
 use Rattle.worker_window.specs.Resting.{ComesToRest, HasSent}
 use Rattle.worker_window.specs.Share.{mote_here}

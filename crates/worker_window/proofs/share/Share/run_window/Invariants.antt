@@ -7,7 +7,7 @@ use Rattle.net_agenda.specs.NetSystem.{system_of}
 use Rattle.worker_window.specs.Events.{are_different, is_one_of}
 use Rattle.worker_window.specs.Share.{Motes, IsWholeShare, mote_here}
 use Rattle.worker_window.specs.Window.{IsOutgoing}
-use Rattle.worker_cut.specs.Crossed.{IsExpected}
+use Rattle.copy_exchange.specs.Crossed.{IsExpected}
 use Rattle.worker_window.proofs.Parts.{window_copies}
 use Rattle.worker_window.proofs.Resting.{IsFitOwn, Resting}
 use Rattle.worker_window.proofs.share.Share.run_window.Given as goal

@@ -1,4 +1,0 @@
--- Where a claim is broken.
-pub mod Witnesses
-pub mod Differences
-pub mod Shows

@@ -1,4 +1,0 @@
-pub mod Forward
-pub mod Order
-pub mod Prefix
-pub mod Runs

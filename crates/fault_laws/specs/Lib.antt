@@ -1,3 +1,0 @@
-pub mod Cases
-pub mod Laws
-pub mod WithFaults

@@ -1,4 +1,0 @@
-pub mod Numbers
-pub mod Again
-pub mod LineLaws
-pub mod OneList

@@ -1,4 +1,0 @@
-pub mod Crossed
-pub mod CrossesTo
-pub mod Cut
-pub mod Laws
