@@ -1,9 +1,9 @@
 """Checks the statements about each example: tools/dev/check_examples [NAME ..]
 
-For each scenario of examples/ and its cookbook the sentences of NAME.expect.toml have to hold, as tools/expect checks. The lines of an
-example that README.md and the pages of docs/ quote must be in the example or in its report. For each task of
-examples/lesson the solution has to meet the expectations, and the scenario that students begin with must not. NAME is
-an example, `flooding`, or a task, `task1`; without a name all are checked.
+For each scenario of examples/ and its cookbook the sentences of NAME.expect.toml have to hold, as tools/expect checks.
+The lines of an example that README.md and the pages of docs/ quote must be in the example or in its report. For each
+task of examples/lesson the solution has to meet the expectations, and the scenario that students begin with must not.
+NAME is an example, `flooding`, or a task, `task1`; without a name all are checked.
 """
 from __future__ import annotations
 

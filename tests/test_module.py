@@ -7,9 +7,9 @@ to the claims of all examples, to some that can't be read, and about scenarios t
 files web/NAME.json have to name the sources of this tree.
 
 With --build, the modules are also made again, from the intermediate code of the proved programs if `rt ci` has proved
-the libraries here. If the same kit and version of binaryen made a committed module from the same kind of code, both have
-to be the same, byte for byte; in any case the new one has to pass the same tests. tools/dev/build_web replaces a module
-that fails.
+the libraries here. If the same kit and version of binaryen made a committed module from the same kind of code, both
+have to be the same, byte for byte; in any case the new one has to pass the same tests. tools/dev/build_web replaces a
+module that fails.
 """
 from __future__ import annotations
 
@@ -230,8 +230,10 @@ def test_the_second_script_is_a_program(checker: Path, tmp_path: Path) -> None:
     (tmp_path / 'claims').write_text('the net: exactly 0 packets sent\n')
     for words in ([str(SMALL), str(tmp_path / 'claims')], ['/dev/stdin', str(tmp_path / 'claims')],
                   ['/nowhere', str(tmp_path / 'claims')], [str(SMALL), '/nowhere']):
-        check_answer('answers', answer(checker, SMALL.read_bytes(), *words), answer(CHECKER, SMALL.read_bytes(), *words))
+        check_answer('answers', answer(checker, SMALL.read_bytes(), *words),
+                     answer(CHECKER, SMALL.read_bytes(), *words))
     survey = answer(checker, b'', '--links', str(SMALL), str(tmp_path / 'claims'))._replace(fault=b'')
-    check_answer('a survey', survey, answer(CHECKER, b'', str(SMALL), '--links', '--at-most=1', str(tmp_path / 'claims')))
+    check_answer('a survey', survey, answer(CHECKER, b'', str(SMALL), '--links', '--at-most=1',
+                                            str(tmp_path / 'claims')))
     for words in ['--at-most', '2'], ['--runs', '5'], ['--workers', '2'], ['--links', '--runs', 'x'], ['three']:
         assert answer(CHECKER, b'', *words, 'one', 'two').status == 2

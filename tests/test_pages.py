@@ -1,10 +1,10 @@
 """Checks that the commands of the pages print what the pages show: tools/dev/check_tutorial [PAGE ..]
 
 The pages are those of docs/use/, README.md, the cookbook, and the worksheet of the lesson. A block of commands begins
-with ```sh. The next block, which begins with ```, has the output of these commands. Commands without a block of output must print nothing. A block that begins with ```console has
-commands that open a window, and is not run. A block that begins with ```toml NAME, ```mote NAME, ```python NAME or
-```c NAME is a file that the reader saves under that name. The commands of a page are run in a separate folder, in which
-./run, tools/ and examples/ exist.
+with ```sh. The next block, which begins with ```, has the output of these commands. Commands without a block of output
+must print nothing. A block that begins with ```console has commands that open a window, and is not run. A block that
+begins with ```toml NAME, ```mote NAME, ```python NAME or ```c NAME is a file that the reader saves under that name.
+The commands of a page are run in a separate folder, in which ./run, tools/ and examples/ exist.
 
 Shows the difference of each block that fails.
 """

@@ -8,7 +8,8 @@ def neighbours(run):
 
 
 def aloha(run):
-    """The share of the copies that slotted ALOHA would deliver, because no other neighbour of the receiver sends then."""
+    """The share of the copies that slotted ALOHA would deliver, because no other neighbour of the receiver sends
+    then."""
     ends = [packet.sender for packet in run.report.medium]
     period = (run.scenario.end + 1) * run.scenario.motes / max(1, len(ends))
     heard = [len(run.scenario.hearers(mote)) for mote in range(run.scenario.motes)]

@@ -16,7 +16,7 @@
     expect    checks which expectations hold: a list of `Kept`             Fault     an error, with its message
     why       explains a line, or why it isn't there: a text               Plan      makes scenarios by rule
     search    the smallest sets of faults that break expectations          Report    traces and the log of the medium
-    compare   shows how two runs diverge: a `Comparison`                   Scenario  motes, places, who hears whom, losses
+    compare   shows how two runs diverge: a `Comparison`                   Scenario  motes, places, links, losses
 
 The packages in this folder are for the commands in tools/. docs/use/REPORT.md, 'A script in Python', shows a script.
 """
@@ -42,8 +42,8 @@ if TYPE_CHECKING:
     from motesim.runner import Limits
     from motesim.scenario import Scenario
 
-__all__ = ['Comparison', 'Fault', 'Kept', 'Limits', 'Plan', 'Report', 'Run', 'Scenario', 'Searched', 'compare', 'expect',
-           'run', 'search', 'why']
+__all__ = ['Comparison', 'Fault', 'Kept', 'Limits', 'Plan', 'Report', 'Run', 'Scenario', 'Searched', 'compare',
+           'expect', 'run', 'search', 'why']
 __getattr__ = on_demand(__name__, {
     'api.answers': ['Comparison', 'Kept', 'Searched'], 'api.compare': ['compare'], 'api.expect': ['expect'],
     'api.run': ['Run', 'run'], 'api.search': ['search'], 'api.why': ['why'], 'faults': ['Fault'], 'plan.plan': ['Plan'],

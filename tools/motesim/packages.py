@@ -1,5 +1,5 @@
-"""Packages beyond Python's standard library. Debian's are for its own interpreter, which may not be the `python3` on the
-path: a tool that needs one then starts again with Debian's interpreter."""
+"""Packages beyond Python's standard library. Debian's are for its own interpreter, which may not be the `python3` on
+the path: a tool that needs one then starts again with Debian's interpreter."""
 from __future__ import annotations
 
 import importlib

@@ -61,12 +61,13 @@ class Reader(argparse.ArgumentParser):
         known = [it[2:] for it in self._option_string_actions if it.startswith('--')]
         name = option.lstrip('-')
         near = RENAMED[name] if RENAMED.get(name) in known else nearest(name, known)
-        self.error('unrecognized arguments: %s%s' % (option or ' '.join(rest), '; did you mean --%s?' % near if near else ''))
+        meant = '; did you mean --%s?' % near if near else ''
+        self.error('unrecognized arguments: %s%s' % (option or ' '.join(rest), meant))
 
 
 class Words(Reader):
-    """A parser that reports an error in one line, without all options; and its help begins with one line of usage, because
-    it lists the options below."""
+    """A parser that reports an error in one line, without all options; and its help begins with one line of usage,
+    because it lists the options below."""
 
     def add_argument(self, *names: Any, **more: Any) -> argparse.Action:
         made = super().add_argument(*names, **more)
@@ -165,6 +166,7 @@ def add_jobs(words: argparse.ArgumentParser) -> None:
 
 def words_of(about: str | None, name: str = '') -> Words:
     """The parser of a tool's arguments; its help begins with the docstring of the tool's module."""
-    words = Words(prog=name or name_of_command(), description=about, formatter_class=argparse.RawDescriptionHelpFormatter)
+    words = Words(prog=name or name_of_command(), description=about,
+                  formatter_class=argparse.RawDescriptionHelpFormatter)
     words.add_argument('--version', action=Version, nargs=0, help='print the version, and exit')
     return words

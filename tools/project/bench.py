@@ -8,7 +8,7 @@ and prints the median, the least and the greatest of these ratios. The status is
 reports, and otherwise 0.
 
 With --host, the tool counts instructions instead, by Valgrind, on one thread and with a tenth of the moments: those of
-motesim, and those of the same programs in compiled C (the host of tools/export --form contiki --host, gcc -O2). Their
+motesim, and those of the same programs in compiled C (the host of tools/export --to contiki --host, gcc -O2). Their
 ratio doesn't depend on other programs that are running.
 """
 from __future__ import annotations

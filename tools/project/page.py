@@ -63,7 +63,8 @@ def make_page(module: bytes) -> str:
     fill = {
         'HELP': reference(), 'TITLE': 'motesim', 'KIND': 'lone', 'STYLE': style(), 'DATA': data(), 'POLICY': POLICY,
         'MODULE': packed(module),
-        'WORKER': script(PAGE / 'worker.js', RUN.read_text('utf-8')), 'SCRIPT': '<script>\n%s\n</script>' % script(PAGE / 'lone.js'),
+        'WORKER': script(PAGE / 'worker.js', RUN.read_text('utf-8')),
+        'SCRIPT': '<script>\n%s\n</script>' % script(PAGE / 'lone.js'),
     }
     return MARK.sub(lambda mark: fill[mark[1]], TEMPLATE.read_text('utf-8'))
 

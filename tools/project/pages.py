@@ -101,8 +101,8 @@ def program_errors() -> Iterator[str]:
 
 def said(name: str, key: Key) -> str:
     """A key of a plan, with its default value if it may be left out."""
-    default = '' if key.is_needed else ' (optional)' if key.default in ({}, None) else ' (%s)' % str(key.default).lower()
-    return '`%s`%s' % (name, default)
+    default = 'optional' if key.default in ({}, None) else str(key.default).lower()
+    return '`%s`' % name if key.is_needed else '`%s` (%s)' % (name, default)
 
 
 def plan_keys() -> Iterator[str]:

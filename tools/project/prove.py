@@ -70,8 +70,8 @@ def prove() -> None:
     """Proves these sources, and moves the built binaries to their places."""
     names, began = programs_in(), time.time()
     crates = crates_of_program(TOP, *names)
-    say('proving %d crate%s: 40 minutes to an hour without earlier results, on four processors; interrupt it at any time, '
-        './prove resumes' % (len(crates), 's' * (len(crates) > 1)))
+    say('proving %d crate%s: 40 minutes to an hour without earlier results, on four processors; interrupt it at any '
+        'time, ./prove resumes' % (len(crates), 's' * (len(crates) > 1)))
     copy_crates(TOP, crates, COPY)
     made = {COPY / built.relative_to(TOP): built for built in map(built_by_proof, names)}
     if not prove_copy(len(crates)) or not all(it.is_file() for it in made):

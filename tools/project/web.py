@@ -3,10 +3,10 @@
 The modules are made from the programs `serial_program`, which simulates the scenario in its standard input on one
 thread, and `serial_check`, which answers claims about one. The kit compiles a program to LLVM's intermediate code. If
 all libraries below it are proved here (`rt ci` and ./prove do this), the kit first proves the program too; otherwise it
-compiles the sources without a proof. The intermediate code is then edited for WebAssembly with addresses of 64 bits (the
-names of the target, attributes of functions, and the name of `main`), compiled and linked with tools/project/runtime.c
-by the kit's own clang, and lowered to addresses of 32 bits by Debian's `binaryen`. Code with a part that the tool doesn't
-know, such as an external function, is refused.
+compiles the sources without a proof. The intermediate code is then edited for WebAssembly with addresses of 64 bits
+(the names of the target, attributes of functions, and the name of `main`), compiled and linked with
+tools/project/runtime.c by the kit's own clang, and lowered to addresses of 32 bits by Debian's `binaryen`. Code with a
+part that the tool doesn't know, such as an external function, is refused.
 
 web/NAME.json names the sources, the kit and the kind of the intermediate code. From the same sources, with the same
 kit and the same version of binaryen, a module is the same, byte for byte.
@@ -223,8 +223,9 @@ def build(name: str, top: Path = TOP) -> Made:
     with tempfile.TemporaryDirectory(prefix='motesim-web-') as room:
         code = code_of(SOURCES[name], top, Path(room))
         module = module_of(code.file, Path(room))
-    return Made(module, About(digest(top, CODE, SOURCES[name]), 'proved' if code.is_proved else 'compiled', kit.version(),
-                              binaryen(), hashlib.sha256(module).hexdigest()))
+    kind = 'proved' if code.is_proved else 'compiled'
+    return Made(module, About(digest(top, CODE, SOURCES[name]), kind, kit.version(), binaryen(),
+                              hashlib.sha256(module).hexdigest()))
 
 
 def write(name: str, made: Made) -> None:
@@ -251,5 +252,6 @@ def main() -> int:
         made, kept = build(name), read_about(name)
         write(name, made)
         print('%s: %d bytes, from the intermediate code of the %s program%s' % (
-            file_of(name).relative_to(TOP), len(made.module), made.about.code, ', as before' if kept == made.about else ''))
+            file_of(name).relative_to(TOP), len(made.module), made.about.code,
+            ', as before' if kept == made.about else ''))
     return page.main()

@@ -8,9 +8,9 @@ no longer fits, or if the prover stops at a limit. Then the mutant is reported a
 somebody rewrites it so that the contract decides. A control comes first: it has to prove the crate without an edit.
 
 The tool uses the libraries in crates/*/out, and first builds those that are missing or outdated. With --built it builds
-none, because rt ci has just built them. Each verdict is noted in docs/proof/wrong_bodies.tsv, with a digest of the texts
-that it is about. As many checks run in parallel as processors and memory allow, or as RT_JOBS says. The last line is
-`N passed, M failed, K skipped`. The status is 1 if a mutant failed, and otherwise 0.
+none, because rt ci has just built them. Each verdict is noted in docs/proof/wrong_bodies.tsv, with a digest of the
+texts that it is about. As many checks run in parallel as processors and memory allow, or as RT_JOBS says. The last
+line is `N passed, M failed, K skipped`. The status is 1 if a mutant failed, and otherwise 0.
 """
 from __future__ import annotations
 
@@ -36,8 +36,8 @@ from project.mutants.edits import Edit, edits_of, groups
 from project.tree import commit
 
 GATE = 'gate-bodies'
-# The most processor seconds that the gate's mutants may need; the checks of a batch, that of the control and that of the
-# harmless twins included; and the processor seconds of a check of which the log says nothing.
+# The most processor seconds that the gate's mutants may need; the checks of a batch, that of the control and that of
+# the harmless twins included; and the processor seconds of a check of which the log says nothing.
 SECONDS, CHECKS, UNKNOWN_SECONDS = 480, 3, 60
 
 
@@ -47,8 +47,8 @@ def words() -> argparse.Namespace:
     asked.add_argument('--changed', action='store_true',
                        help='leave out mutants that were refused, or left open, with exactly the same texts')
     asked.add_argument('--gate', action='store_true',
-                       help="try the gate's choice: batches that need at most %d processor minutes by the log, first those "
-                            "with mutants in %s that have changed" % (SECONDS // 60, GATE))
+                       help="try the gate's choice: batches that need at most %d processor minutes by the log, first "
+                            "those with mutants in %s that have changed" % (SECONDS // 60, GATE))
     asked.add_argument('names', nargs='*', metavar='CRATE or CRATE/NAME', help='crates, or mutants (all)')
     found: argparse.Namespace = asked.parse_args()
     return found
@@ -101,7 +101,8 @@ def of_gate(edits: Sequence[Edit]) -> list[Edit]:
     dear = sorted(crate for crate, it in log.seconds().items() if CHECKS * it > SECONDS)
     print('%d of %d in %s that have changed, and %d others, chosen by the commit %s; not tried: %d that are open%s' % (
         len([it for it in chosen if it in new]), len(new), GATE, len([it for it in chosen if it not in new]), seed[:8],
-        len(edits) - len(decided), ''.join(', and those of %s, of which a batch needs too long' % it for it in dear)), flush=True)
+        len(edits) - len(decided), ''.join(', and those of %s, of which a batch needs too long' % it for it in dear)),
+        flush=True)
     return [it for it in edits if it in chosen]
 
 
@@ -137,7 +138,8 @@ def tasks_of(trial: Trial, end: Callable[[Trial, int], None]) -> dict[Any, kit.T
 def judge_all(edits: Sequence[Edit], every: Sequence[Edit]) -> dict[Edit, Verdict]:
     """Tries these mutants among all, notes the verdicts on those of a crate as soon as it's done, and returns all."""
     found = {it: Verdict(UNKNOWN, '', "it can't be applied: " + it.trouble) for it in edits if it.trouble}
-    trials = [Trial([*of_crate]) for _, of_crate in groupby((it for it in edits if not it.trouble), lambda it: it.crate)]
+    trials = [Trial([*of_crate]) for _, of_crate in groupby((it for it in edits if not it.trouble),
+                                                            lambda it: it.crate)]
     before, one_at_a_time = processor_seconds(), Lock()
 
     def end(trial: Trial, jobs: int) -> None:

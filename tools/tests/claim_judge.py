@@ -109,8 +109,8 @@ class ClaimJudge:
 
 
 class Tried(NamedTuple):
-    """A test, or a case, by its text: whether it holds; the line too many, if it doesn't; the line by which it does; and
-    the missing and the superfluous values."""
+    """A test, or a case, by its text: whether it holds; the line too many, if it doesn't; the line by which it does;
+    and the missing and the superfluous values."""
     text: str
     holds: bool
     spare: Line | None = None
@@ -162,7 +162,8 @@ class Reader:
         return 'also for ' + holding[most] if len(holding) > most else ''
 
     def group(self) -> list[tuple[str, Tried, Tried | None]]:
-        """The cases of some motes, or the one of the net: whose each is, the case, and the first test that doesn't hold."""
+        """The cases of some motes, or the one of the net: whose each is, the case, and the first test that doesn't
+        hold."""
         motes = self.need('the net: |motes? %s: ' % NUMBERS)[1]
         begin, found = self.at, list[tuple[str, Tried, Tried | None]]()
         for mote in numbers_in(motes) if motes else [-1]:
@@ -265,7 +266,8 @@ class Reader:
     def copies(self, motes: str | None) -> int:
         to = range(len(self.judge.traces)) if motes is None else numbers_in(motes)
         if due := self.take(r' lost by the medium or due by (\d+)'):
-            return sum(it in to and (at is None or at <= int(due[1])) for *_, its in self.judge.packets() for it, at in its)
+            return sum(it in to and (at is None or at <= int(due[1])) for *_, its in self.judge.packets()
+                       for it, at in its)
         self.need(' sent')
         when = self.when()
         self.need(' and lost by the medium')
@@ -358,7 +360,8 @@ def answers_to(claims: list[str], scenario: bytes, report: str) -> list[str]:
 
 def deciding_by(report: str) -> Any:
     """Lets this process have verdicts about a report."""
-    return mock.patch('motesim.judge.verdicts.answers', lambda scenario, claims, **_: answers_to(claims, scenario, report))
+    return mock.patch('motesim.judge.verdicts.answers',
+                      lambda scenario, claims, **_: answers_to(claims, scenario, report))
 
 
 def main() -> int:

@@ -44,7 +44,8 @@ class ClaimTexts:
 
     def period(self) -> str:
         at, end = sorted((self.chance.randint(0, 40), self.chance.randint(0, 40)))
-        return self.chance.choice(('', '', '', ' at %d' % at, ' from %d on' % (at + 1), ' from %d to %d' % (at, end + 1)))
+        return self.chance.choice(('', '', '', ' at %d' % at, ' from %d on' % (at + 1),
+                                   ' from %d to %d' % (at, end + 1)))
 
     def pattern(self) -> str:
         kind = self.chance.choice(KINDS)
@@ -72,7 +73,8 @@ class ClaimTexts:
     def limits(self, most: int = 3) -> tuple[str, str]:
         """Limits, and the noun behind them."""
         low, high = sorted((self.chance.randint(0, most), self.chance.randint(0, most)))
-        both = 'exactly %d' % low if low == high else 'at least %d and at most %d' % (low, high) if low else 'at most %d' % high
+        at_most = 'at least %d and at most %d' % (low, high) if low else 'at most %d' % high
+        both = 'exactly %d' % low if low == high else at_most
         text, last = self.chance.choice((('at least %d' % low, low), ('exactly %d' % low, low), (both, high)))
         return text, 'line' if last == 1 else 'lines'
 
@@ -84,7 +86,8 @@ class ClaimTexts:
             return 'the last line %s has the value of the last line %s' % (one, two)
         if form < 6:
             order = self.chance.choice(('any order', 'order of time'))
-            return 'the lines %s have in %s exactly %s' % (one, order, 'the values of the lines ' + two if form > 3 else its)
+            return 'the lines %s have in %s exactly %s' % (one, order, 'the values of the lines ' + two
+                                                           if form > 3 else its)
         if form < 8:
             return 'each value of the lines %s is the value of %s %s %s' % (one, *self.limits(), two)
         if form == 8:

@@ -23,8 +23,8 @@ sys.path.insert(0, str(TOOLS))
 # (a line that tools say once a day is said each time)
 os.environ['MOTESIM_SEEN'] = os.devnull + '/none'
 # No outcome of a test depends on how fast the machine is. A test waits for what happens (a file, a line, an end), never
-# for a time; what goes on meanwhile waits for the test (HOLDS); and a limit is SECONDS, which nothing needs, or ends what
-# would never end by itself. (test_layers.py looks for other times.)
+# for a time; what goes on meanwhile waits for the test (HOLDS); and a limit is SECONDS, which nothing needs, or ends
+# what would never end by itself. (test_layers.py looks for other times.)
 SECONDS = 1800
 # A line of shell that waits until there is a file with the script's name and `.go`, or until the script is removed.
 HOLDS = 'while [ -e "$0" ] && ! [ -e "$0.go" ]; do sleep 0.1; done'
@@ -70,7 +70,8 @@ def become_tool(path: Path, words: tuple[str, ...], cwd: Path | str | None, env:
     try:
         for number, stream in enumerate(streams):
             os.dup2(stream.fileno(), number)
-        made: list[Any] = [open(number, mode, encoding='utf-8', errors=errors, closefd=False) for number, mode, errors in
+        made: list[Any] = [open(number, mode, encoding='utf-8', errors=errors, closefd=False)
+                           for number, mode, errors in
                            ((0, 'r', 'strict'), (1, 'w', 'strict'), (2, 'w', 'backslashreplace'))]
         sys.stdin, sys.stdout, sys.stderr = made
         os.chdir(cwd or '.')
@@ -156,8 +157,8 @@ def text_of(name: str) -> str:
 
 
 def rows_of(name: str) -> list[tuple[str, ...]]:
-    r"""The rows of a table of cases in this folder, with a tab between two cells, which may have line ends as `\n`; lines
-    with `#` are remarks."""
+    r"""The rows of a table of cases in this folder, with a tab between two cells, which may have line ends as `\n`;
+    lines with `#` are remarks."""
     lines = (TOOLS / 'tests' / name).read_text('utf-8').splitlines()
     return [tuple(it.replace('\\n', '\n').split('\t')) for it in lines if it and not it.startswith('#')]
 

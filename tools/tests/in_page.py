@@ -11,7 +11,8 @@ from browser import InBrowser
 from project.page import MODULE, make_page
 
 FLOODING = (TOP / 'examples/flooding.toml').read_text()
-CODES = {'Tab': 9, 'Enter': 13, 'Escape': 27, 'ArrowLeft': 37, 'ArrowUp': 38, 'ArrowRight': 39, 'ArrowDown': 40, 'Delete': 46}
+CODES = {'Tab': 9, 'Enter': 13, 'Escape': 27, 'ArrowLeft': 37, 'ArrowUp': 38, 'ArrowRight': 39, 'ArrowDown': 40,
+         'Delete': 46}
 
 
 def fragment(text: str) -> str:

@@ -29,7 +29,8 @@ class Value:
 
 @dataclass(frozen=True)
 class Deed:
-    """kind: print, send, recv, start, leave, halt or writes; or, for all lines `print`, just, set, only, finally or same."""
+    """kind: print, send, recv, start, leave, halt or writes; or, for all lines `print`, just, set, only, finally or
+    same."""
     kind: str
     process: str = ''
     value: Value | None = None

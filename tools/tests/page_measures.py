@@ -116,7 +116,8 @@ class PageMeasures:
         for line in self.traces[int(to)]:
             if line.at == int(there) and line.words[1:3] == (str(sender), str(number)):
                 if line.words[0] in ('recv', 'lost', 'collide'):
-                    return int(to), int(there), {'recv': 'received', 'lost': 'overflowed'}.get(line.words[0], 'collided')
+                    ended = {'recv': 'received', 'lost': 'overflowed', 'collide': 'collided'}
+                    return int(to), int(there), ended[line.words[0]]
         return int(to), int(there), 'halted'
 
     # -- tools/summary

@@ -57,7 +57,8 @@ def net_of(chance: random.Random) -> tuple[str, str, int]:
 def program_of(chance: random.Random, names: list[str], motes: int) -> str:
     """A program whose processes have statements by chance."""
     def code(name: str) -> str:
-        value, others = chance.choice(('self', 'data', 'n', '%d' % (1 << chance.randrange(motes)))), chance.choice(names)
+        value, others = chance.choice(('self', 'data', 'n',
+                                       '%d' % (1 << chance.randrange(motes)))), chance.choice(names)
         steps = ('print %s;' % value, 'print %d;' % chance.randint(0, 4), 'send %s;' % value, 'n = (n + 1);', 'yield;',
                  'set t %d; yield_until fired(t);' % chance.randint(1, 9), 'yield_until is(packet); print data;',
                  'post %s note %d;' % (others, chance.randint(0, 2)), 'kill %s;' % others, 'start %s;' % others,
@@ -234,14 +235,17 @@ class Sentences:
         if self.is_so(.3):
             return '%s %s %s %s times for each value' % (text, words, when, number), replace(
                 it, deed=deed, when=its, times=replace(times, other=Event(None, None, None), is_each=True))
-        who, own = self.chance.choice((('it', None), ('mote %d' % mote, (mote,)), ('motes %s together' % listed, motes)))
+        who, own = self.chance.choice((('it', None), ('mote %d' % mote, (mote,)),
+                                       ('motes %s together' % listed, motes)))
         late, later = self.when(has_hops=False, has_parts=False)
-        return '%s %s %s %s times for each value that %s %s %s' % (text, words, when, number, who, other, late), replace(
-            it, deed=deed, when=its, times=replace(times, other=Event(own, event, later), is_each=True))
+        text += ' %s %s %s times for each value that %s %s %s' % (words, when, number, who, other, late)
+        times = replace(times, other=Event(own, event, later), is_each=True)
+        return text, replace(it, deed=deed, when=its, times=times)
 
     def valued(self) -> tuple[str, Deed]:
         """A deed whose lines have values."""
-        return self.chance.choice((('prints a', Deed('print', 'a')), ('sends', Deed('send')), ('receives', Deed('recv'))))
+        return self.chance.choice((('prints a', Deed('print', 'a')), ('sends', Deed('send')),
+                                   ('receives', Deed('recv'))))
 
     def does(self) -> tuple[str, Does]:
         text, it = self.subject()

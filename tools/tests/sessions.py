@@ -9,13 +9,13 @@
     files."b.toml" = ["net", "old", "new"]     # the text `net` with other words, each of which must be in it
     do = [{ run = "tool WORD ..", status = 2, err = "a part of what it says" }]
 
-A step may have further keys: `out` and `err` are parts of what it writes on its streams, `lacks` are in neither, `whole`
-is all of standard output, and `like` is a regular expression; `made` has parts of files, `lacks_in` what they lack,
-`like_in` regular expressions, `names` the names in folders, and `absent` files that there aren't; `files` are written,
-and `remove` removed, before the command. Spaces and line ends count as one space each. A session of one step has its
-keys itself, and `patch` has values that the tools then have under other names: patch."motesim.MODULE.NAME" = 1.
-Commands that are refused, each with a part of the reason, may be listed at the end of a session:
-refuses."tool WORD .." = "..".
+A step may have further keys: `out` and `err` are parts of what it writes on its streams, `lacks` are in neither,
+`whole` is all of standard output, and `like` is a regular expression; `made` has parts of files, `lacks_in` what they
+lack, `like_in` regular expressions, `names` the names in folders, and `absent` files that there aren't; `files` are
+written, and `remove` removed, before the command. Spaces and line ends count as one space each. A session of one step
+has its keys itself, and `patch` has values that the tools then have under other names: patch."motesim.MODULE.NAME" =
+1. Commands that are refused, each with a part of the reason, may be listed at the end of a session: refuses."tool WORD
+.." = "..".
 """
 from __future__ import annotations
 

@@ -52,7 +52,8 @@ def packets(scenario: Scenario, text: Text) -> Iterator[tuple[int, int, int, lis
     for number, value in enumerate(text.sends):
         at = 10 * (number + 1)
         if at <= scenario.end:
-            yield at, number, value, [(to, None if scenario.losses.get((0, to)) and (number + 1) % scenario.losses[0, to] == 0 else at + scenario.delay(0, to))
+            yield at, number, value, [(to, None if scenario.losses.get((0, to))
+                                       and (number + 1) % scenario.losses[0, to] == 0 else at + scenario.delay(0, to))
                                       for to in scenario.hearers(0)]
 
 

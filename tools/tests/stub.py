@@ -1,9 +1,10 @@
 """A program instead of motesim, for tests of tools that run it: its reports are short and known beforehand.
 
 Mote n prints P at moment P * (n + 1), where P is what the first `print` of its program has. A comment `// wait`,
-`// memory`, `// burn`, `// long` or `// refuse` in the program makes it wait as HOLDS does, use much memory meanwhile, use
-a minute of processor time, or answer a long report or a fault. It can't grow: it ends at a gigabyte of memory, at two
-minutes of processor time, and after 100 megabytes of its report. It is in Perl, which starts in a tenth of Python's time.
+`// memory`, `// burn`, `// long` or `// refuse` in the program makes it wait as HOLDS does, use much memory meanwhile,
+use a minute of processor time, or answer a long report or a fault. It can't grow: it ends at a gigabyte of memory, at
+two minutes of processor time, and after 100 megabytes of its report. It is in Perl, which starts in a tenth of
+Python's time.
 
 `programs_of` has the environment of tools that run a stand-in for motesim, and one for motecheck, which decides claims
 about its reports. In a block of `judged`, processes that are forked from this one decide them without motecheck.

@@ -53,11 +53,13 @@ class Calls(Room):
     def test_a_run_is_asked_for_a_mote(self) -> None:
         run = motesim.run(SCENARIO.encode())
         mote = run.mote(1)
-        its = [mote.prints('a', 7), mote.prints('just a 7 by 14'), mote.sends(), mote.receives('7 from mote 0'), mote.halts(),
-               mote.does('never prints a 8'), run.expect('no mote halts')]
+        its = [mote.prints('a', 7), mote.prints('just a 7 by 14'), mote.sends(), mote.receives('7 from mote 0'),
+               mote.halts(), mote.does('never prints a 8'), run.expect('no mote halts')]
         self.assertEqual([it.holds for it in its], [True, True, False, False, False, True, True])
-        self.assertEqual((its[3].expectation, repr(its[0])), ('mote 1 receives 7 from mote 0', 'holds: mote 1 prints a 7'))
-        self.assertRegex(repr(run.mote(2).prints('a by 20')), 'broken: mote 2 prints a by 20 -- not for .*; the next is line 18')
+        self.assertEqual((its[3].expectation, repr(its[0])),
+                         ('mote 1 receives 7 from mote 0', 'holds: mote 1 prints a 7'))
+        self.assertRegex(repr(run.mote(2).prints('a by 20')),
+                         'broken: mote 2 prints a by 20 -- not for .*; the next is line 18')
 
     def test_why_a_line_is_there_or_is_not(self) -> None:
         run = motesim.run(SCENARIO.encode())
@@ -90,7 +92,8 @@ def test_a_search_finds_the_faults_that_break_expectations() -> None:
     pair = 'link 1 to 2 is broken', 'link 4 to 2 is broken'
     assert [(it.faults, it.expectations) for it in found.found] == [(pair, ('every mote but 0 prints news',))]
     assert (found.holding, found.broken, bool(found)) == (('every mote sends at most once',), (), False)
-    assert repr(found).startswith('every mote but 0 prints news: broken with link 1 to 2 is broken and link 4 to 2 is broken; cov')
+    assert repr(found).startswith(
+        'every mote but 0 prints news: broken with link 1 to 2 is broken and link 4 to 2 is broken; cov')
     assert not motesim.run(name, faults=pair).mote(2).prints('news')
     assert motesim.search(name.read_bytes(), expected, links=True) and motesim.search(name, expected[0], late=[1, 4])
     assert motesim.search(name, 'no mote sends', silent=True).broken == ('no mote sends',)
@@ -101,7 +104,8 @@ def test_a_search_finds_the_faults_that_break_expectations() -> None:
 
 def pytest_on(*names: object) -> subprocess.CompletedProcess[str]:
     return subprocess.run([sys.executable, '-m', 'pytest', '-p', 'no:cacheprovider', '-p', 'motesim.api.fixture', '-q',
-                           *map(str, names)], capture_output=True, text=True, env={**os.environ, 'PYTHONPATH': str(TOOLS)})
+                           *map(str, names)], capture_output=True, text=True,
+                          env={**os.environ, 'PYTHONPATH': str(TOOLS)})
 
 
 def test_the_test_among_the_examples_passes_and_one_that_fails_shows_the_reason(tmp_path: Path) -> None:

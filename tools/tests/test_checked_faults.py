@@ -34,7 +34,7 @@ class Checked(unittest.TestCase):
         return self.run_check('--report', *('--fault=' + it for it in faults), 'net.toml')
 
     def test_a_report_is_that_of_motesim(self) -> None:
-        for faults, losses in ([], ''), (['link 0 to 1 is broken'], '[[loss]]\nfrom = 0\nto = 1\nevery = 1\n'):
+        for faults, losses in (list[str](), ''), (['link 0 to 1 is broken'], '[[loss]]\nfrom = 0\nto = 1\nevery = 1\n'):
             done = subprocess.run([program_path()], input=NET + losses, capture_output=True, text=True, check=True)
             self.assertEqual(self.report_with(*faults), done.stdout)
 

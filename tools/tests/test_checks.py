@@ -189,8 +189,8 @@ class Examples(unittest.TestCase):
             check_readings(Run('r', Report.parse(REPORT.replace('304 send 1 2\n', '')), scenario))
 
 
-# A program that asks for memory three times, or starts two threads, the second one after the first has ended if JOINS is
-# 1; it says so if one is refused, except for the request CALM.
+# A program that asks for memory three times, or starts two threads, the second one after the first has ended if JOINS
+# is 1; it says so if one is refused, except for the request CALM.
 ASKS = text_of('asks.c')
 WORKERS = '--workers', '2'
 NO_MEMORY, NO_THREAD = '"motesim: out of memory\\n"', '"motesim: run fault 5\\n"'

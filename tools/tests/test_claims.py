@@ -85,7 +85,8 @@ class Surveys(unittest.TestCase):
         claims = ['each of motes 1 to 8: the lines "print process news" have in order of time exactly the values 7']
         alone, first, second, covered = answers(self, news, claims, '--links', *workers(2))
         lost = [link for link in permutations(range(9), 2)
-                if answers(self, news + '[[loss]]\nfrom = %d\nto = %d\nevery = 1\n' % link, claims)[0].startswith('broken')]
+                if answers(self, news + '[[loss]]\nfrom = %d\nto = %d\nevery = 1\n' % link,
+                           claims)[0].startswith('broken')]
         self.assertEqual(alone, 'broken: ' + claims[0])
         self.assertEqual([tuple(map(int, re.findall(r'\d+', it))) for it in (first, second)], lost)
         self.assertEqual(covered, 'covered: all sets of at most 1 of 40 faults; runs: 41')

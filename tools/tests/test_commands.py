@@ -8,9 +8,8 @@ from pathlib import Path
 
 from here import TOOLS, TOP, call, text_of
 from motesim.home import VERBS
-from motesim.commands import export, search, shrink, sweep
+from motesim.commands import search, shrink, sweep
 from motesim.experiments import asked
-from motesim.export.command import ENDS
 from motesim.runner.programs import CHECKER, PROGRAM
 from motesim.surveys.searching import LIMITS
 from skips import need_built
@@ -47,10 +46,12 @@ class Commands(unittest.TestCase):
                             (('plot', 'a.csv', '--measure', 'x', '--against', 'y', '--measure', 'z'),
                              '--measure is given twice: give it only once'),
                             (('search', 'a.toml', '--at-most', 'x'), "argument --at-most: invalid int value: 'x'"),
-                            (('sweep', 'a.toml', '--jobs', '0'), 'argument --jobs: 0 is not a whole number of at least 1'),
+                            (('sweep', 'a.toml', '--jobs', '0'),
+                             'argument --jobs: 0 is not a whole number of at least 1'),
                             (('scenario', 'a.plan.toml', '-o', '-'), NO_NAME),
                             (('grade', 'a.toml', 'b.toml', '-o', '-'), NO_NAME),
-                            (('log', 'a.toml', '--motes', '3'), 'unrecognized arguments: --motes; did you mean --mote?'),
+                            (('log', 'a.toml', '--motes', '3'),
+                             'unrecognized arguments: --motes; did you mean --mote?'),
                             (('summary', 'a', 'b', 'c'), 'unrecognized arguments: b c'),
                             (('summary',), 'the following arguments are required: FILE')):
             done = call(*words)
@@ -67,8 +68,10 @@ class Commands(unittest.TestCase):
                                     (('log', net, '--expect', holds), 0, '46    6  221  print flood 1'),
                                     (('log', '--csv', net, holds), 0, 'moment'),
                                     (('summary', '--csv', net, '--motes'), 0, 'mote,program,sent'),
-                                    (('log', net, holds, '--expect', holds), 2, 'this command takes only one expectation'),
-                                    (('expect', net, net, '--expect', holds), 2, 'in a file or in --expect, not in both'),
+                                    (('log', net, holds, '--expect', holds), 2,
+                                     'this command takes only one expectation'),
+                                    (('expect', net, net, '--expect', holds), 2,
+                                     'in a file or in --expect, not in both'),
                                     (('sweep', 'a.toml', '--vary', 'a=1'), 2, '--vary; did you mean --param?'),
                                     (('search', net, '--bytes', '9'), 2, '--bytes; did you mean --report?')):
             with self.subTest(words):
@@ -87,6 +90,6 @@ class Commands(unittest.TestCase):
                 self.assertEqual(Path(room, 'net.' + form).read_text(), whole.stdout)
 
     def test_defaults_are_those_of_the_libraries(self) -> None:
-        self.assertEqual((search.SECONDS, search.REPORT << 20, shrink.SECONDS), (LIMITS.seconds, LIMITS.report, LIMITS.seconds))
+        self.assertEqual((search.SECONDS, search.REPORT << 20, shrink.SECONDS),
+                         (LIMITS.seconds, LIMITS.report, LIMITS.seconds))
         self.assertEqual(sweep.REPORT << 20, asked.MOST_BYTES)
-        self.assertEqual(export.FORMS, tuple(ENDS))

@@ -19,7 +19,8 @@ def test_what_came_before_has_packets_and_events() -> None:
     assert [line.at for line in compare.before(lines)] == [1, 2, 3, 11, 12, 13, 14]
 
 
-@pytest.mark.parametrize('a, b, wanted', [('x\ny\nz', 'x\nnew\ny\nz', '0 lines only in A, 1 only in B; the first is line 2'),
+@pytest.mark.parametrize('a, b, wanted',
+                         [('x\ny\nz', 'x\nnew\ny\nz', '0 lines only in A, 1 only in B; the first is line 2'),
                                           ('x\ny\nz', 'z', '2 lines only in A, 0 only in B; the first is line 1'),
                                           ('x\ny', 'x\nw', 'differs in its line 2')])
 def test_lines_of_programs_are_counted_as_diff_counts_them(a: str, b: str, wanted: str) -> None:

@@ -7,10 +7,11 @@ import unittest
 from pathlib import Path
 
 from here import TOOLS, TOP, Room
-from motesim.contiki.expressions import Expressions, calculated
+from motesim.contiki.expressions import Expressions
 from motesim.contiki.folder import folder_files
 from motesim.contiki.names import Names, file_names
 from motesim.contiki.program_file import ProgramFile
+from motesim.notation.operators import calculated
 from motesim.notation.reader import read_program
 from motesim.notation.tree import Expression, Not, Operation, Value, word
 from motesim.scenario import Scenario
@@ -20,7 +21,8 @@ STRICT = ['-std=c99', '-Wall', '-Wextra', '-Werror']
 OPERATORS = ['+', '-', '*', '/', '%', '==', '!=', '<', '<=', '>', '>=', '&&', '||']
 
 # One of each construct, and the C file that a Contiki programmer would write for it.
-PROGRAM, FILE = ((Path(__file__).parent / 'contiki' / name).read_text('utf-8') for name in ('construct.mote', 'construct.c'))
+PROGRAM, FILE = ((Path(__file__).parent / 'contiki' / name).read_text('utf-8')
+                 for name in ('construct.mote', 'construct.c'))
 
 TOKEN = re.compile(r'\s*(\d+U?|[a-z]\w*|==|!=|<=|>=|&&|\|\||[-+*/%<>!(),])')
 BINDING = [['||'], ['&&'], ['==', '!='], ['<', '<=', '>', '>='], ['+', '-'], ['*', '/', '%']]
@@ -149,7 +151,8 @@ class ExpressionTest(unittest.TestCase):
             texts = [it(expression).text for it in (writer.value, writer.loose, writer.condition)]
             for bits in 16, 32:
                 value, loose, test = (CValue(it, variables, bits).value() for it in texts)
-                self.assertEqual((value, loose % 65536, test != 0), (wanted, wanted, wanted != 0), (bits, texts, variables))
+                self.assertEqual((value, loose % 65536, test != 0), (wanted, wanted, wanted != 0),
+                                 (bits, texts, variables))
 
     def test_no_cast_without_need(self) -> None:
         names = Names(read_program('process p; code p { var a = 0; body { } }'))
@@ -249,7 +252,7 @@ class FolderTest(Room):
         """With a stand-in for the Makefile of a Contiki tree, which has the rule that makes a program."""
         (self.room / 'Makefile.include').write_text('%: %.c; @echo $@ $(TARGET) $(PROJECT_SOURCEFILES)\n')
         for more in ((), ('--host',)):
-            self.export(str(TOP / 'examples/small_network.toml'), '--form', 'contiki', '-o', 'out', *more)
+            self.export(str(TOP / 'examples/small_network.toml'), '--to', 'contiki', '-o', 'out', *more)
             done = subprocess.run(['make', '-s', '-C', 'out', 'CONTIKI=%s' % self.room, 'TARGET=sky'],
                                   capture_output=True, text=True, cwd=self.room)
             self.assertEqual(done.stdout, 'listener sky motesim_radio.c\nsender sky motesim_radio.c\n', done.stderr)

@@ -21,14 +21,15 @@ class Host(Room):
             need(name, name)
         super().setUp()
         for path in SCENARIOS:
-            call('export', str(path), '--form', 'contiki', '--host', '-o', str(self.room / path.stem), check=True)
+            call('export', str(path), '--to', 'contiki', '--host', '-o', str(self.room / path.stem), check=True)
 
     def report(self, name: str, compiler: str, flags: str = '') -> str:
         """The report of an exported scenario by the host."""
         folder = self.room / name
-        subprocess.run(['make', '-s', '-C', str(folder), 'host', 'HOSTCC=' + compiler, 'HOSTFLAGS=' + flags], check=True,
-                       capture_output=True)
-        return subprocess.run([str(folder / 'host')], check=True, capture_output=True, text=True, timeout=SECONDS).stdout
+        subprocess.run(['make', '-s', '-C', str(folder), 'host', 'HOSTCC=' + compiler, 'HOSTFLAGS=' + flags],
+                       check=True, capture_output=True)
+        return subprocess.run([str(folder / 'host')], check=True, capture_output=True, text=True,
+                              timeout=SECONDS).stdout
 
     def reports(self) -> list[str]:
         return [self.report(path.stem, 'tcc') for path in SCENARIOS]

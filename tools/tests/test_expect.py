@@ -34,7 +34,8 @@ from stub import programs_of
 
 TABLE = Table(TABLES / 'expect.toml')
 SCENARIO, REPORT, RELAY = (TABLE.texts[it] for it in ('flood', 'flood_report', 'relay'))
-FINDERS = {it: Finder(Report.parse(TABLE.texts[it + '_report']), Scenario.parse(TABLE.texts[it])) for it in ('flood', 'relay')}
+FINDERS = {it: Finder(Report.parse(TABLE.texts[it + '_report']), Scenario.parse(TABLE.texts[it]))
+           for it in ('flood', 'relay')}
 NAMES = {it: names_of(finder.scenario) for it, finder in FINDERS.items()}
 
 
@@ -64,18 +65,23 @@ def test_what_may_stand_is_told(net: str, sentence: str, word: str, wanted: str)
 
 @pytest.mark.parametrize('sentence, why', [
     ('exactly 2 copies are left', 'not for the net: exactly 2 copies left at the end, but there is 1'),
-    ('mote 1 prints a 1 by 12', 'not for mote 1: at least 1 line "print process a value 1" from 0 to 12, but there are 0; '
+    ('mote 1 prints a 1 by 12',
+     'not for mote 1: at least 1 line "print process a value 1" from 0 to 12, but there are 0; '
      'the next is'),
-    ('mote 1 prints a 1 before mote 0 sends 1', 'not for mote 1: every line "print process a value 1" is before every line '
+    ('mote 1 prints a 1 before mote 0 sends 1',
+     'not for mote 1: every line "print process a value 1" is before every line '
      '"send value 1" of mote 0; the first that isn\'t is'),
     ('mote 0 prints a its distance from mote 3', 'mote 0 is not reached from mote 3'),
-    ('at least 3 motes print a', 'fewer than 3 of 4 hold: not for mote 0: at least 1 line "print process a", but there are 0'),
-    ('at most 1 mote prints a', 'more than 1 of 4 hold: also for mote 2: at least 1 line "print process a"; the line that '
+    ('at least 3 motes print a',
+     'fewer than 3 of 4 hold: not for mote 0: at least 1 line "print process a", but there are 0'),
+    ('at most 1 mote prints a',
+     'more than 1 of 4 hold: also for mote 2: at least 1 line "print process a"; the line that '
      'meets it is')])
 def test_reasons_are_the_words_of_claims_with_what_there_is(sentence: str, why: str) -> None:
     text = RELAY + '[[loss]]\nfrom = 3\nto = 2\nevery = 1\n'
     with deciding_by(TABLE.texts['relay_report']):
-        broken, = breaks([read_sentence(sentence, NAMES['relay'])], Finder(FINDERS['relay'].report, Scenario.parse(text)))
+        broken, = breaks([read_sentence(sentence, NAMES['relay'])],
+                         Finder(FINDERS['relay'].report, Scenario.parse(text)))
     assert broken and broken.words == why
 
 
@@ -113,11 +119,14 @@ NETS: dict[str, dict[str, str]] = {
     ('mote 0 sends at most 9 within 5 of receiving 7', '', remarks.NO_EVENT % 'receiving 7'),
     ('motes 0 to 3 together never send after motes 0 to 2 together halt', '',
      remarks.NO_EVENT % 'motes 0 to 2 together halt'),
-    ('no copy collides at mote 2', 'apart', remarks.NO_COLLISIONS), ('no copy is lost at mote 1', 'free', remarks.NO_LOSSES),
-    ('some copy is lost at mote 1', 'free', remarks.NO_LOSSES), ('every copy arrives at mote 0', 'early', remarks.NO_COPIES),
+    ('no copy collides at mote 2', 'apart', remarks.NO_COLLISIONS),
+    ('no copy is lost at mote 1', 'free', remarks.NO_LOSSES),
+    ('some copy is lost at mote 1', 'free', remarks.NO_LOSSES),
+    ('every copy arrives at mote 0', 'early', remarks.NO_COPIES),
     ('every mote but 0 to 3 sends', '', remarks.OF_NO_MOTE % 'true'),
     ('some mote but 0 to 3 sends', '', remarks.OF_NO_MOTE % 'false'),
-    *((it, '', '') for it in ('no mote sends after mote 3 halts', 'no mote sends 9 after receiving 1', 'mote 0 sends by 500',
+    *((it, '', '') for it in ('no mote sends after mote 3 halts', 'no mote sends 9 after receiving 1',
+                              'mote 0 sends by 500',
                               'no copy is lost at mote 1', 'every copy arrives at mote 0', 'no mote halts twice'))])
 def test_remarks_on_sentences_that_say_nothing(sentence: str, net: str, remark: str) -> None:
     text = SCENARIO
@@ -177,7 +186,8 @@ def room(tmp_path: Path) -> Path:
 
 def said(room: Path, text: str, motecheck: str) -> 'subprocess.CompletedProcess[str]':
     (room / 'a.expect.toml').write_text(text)
-    return call('expect', 'a.toml', cwd=room, env={**os.environ, 'MOTESIM': str(room / 'motesim'), 'MOTECHECK': motecheck})
+    return call('expect', 'a.toml', cwd=room,
+                env={**os.environ, 'MOTESIM': str(room / 'motesim'), 'MOTECHECK': motecheck})
 
 
 def test_the_verdict_is_that_of_motecheck(room: Path) -> None:
@@ -186,7 +196,8 @@ def test_the_verdict_is_that_of_motecheck(room: Path) -> None:
     assert (done.stderr, done.returncode) == ('', 1)
     assert done.stdout.splitlines() == [
         'holds   mote 0 sends exactly 3 times', 'holds   mote 1 can hear mote 0', 'broken  no mote halts',
-        '          also for mote 2: at least 1 line "halt"; the line that meets it is', '          line 17: 46 send 0 1',
+        '          also for mote 2: at least 1 line "halt"; the line that meets it is',
+        '          line 17: 46 send 0 1',
         '2 passed, 1 failed']
     assert (room / 'asked').read_text() == SCENARIO + (
         'mote 0: exactly 3 lines "send"\nthe net: always\nexactly 0 of motes 0 to 3: at least 1 line "halt"')
@@ -199,7 +210,8 @@ def test_a_program_that_is_not_compiled_is_no_fault_of_the_expectations(room: Pa
     (room / 'a.expect.toml').write_text('expect = ["mote 0 sends"]')
     for name in 'motesim', 'motecheck':
         with mock.patch.dict(os.environ, programs_of(room / 'motesim')), mock.patch.multiple(
-                programs, program_of_sources=lambda name: None, module_program=lambda name: None, _program_here=uncached):
+                programs, program_of_sources=lambda name: None, module_program=lambda name: None,
+                _program_here=uncached):
             os.environ.pop(name.upper())
             done = call('expect', 'a.toml', cwd=room)
         assert (done.stdout, done.returncode, done.stderr) == ('', 2, 'expect: %s\n' % programs.nothing_runs(name))
@@ -296,10 +308,10 @@ class Fields(unittest.TestCase):
             'not for mote 1: at least 1 line "send value seq 3" from 0 to 90',
             'not for mote 1: the last line "print process flood" has the value origin 1, seq 2',
             'not for mote 1: the lines "print process flood" have in order of time exactly the values seq 1',
-            'not for mote 0: each value of the lines "send" is the value of exactly 1 line "print process flood" of mote 2; '
-            'missing: 2 (origin 0, seq 2); the first line whose value is missing is',
-            'not for mote 2: the last line "print process flood" has the value of the last line "print process flood" of mote '
-            '1; missing: 2 (origin 0, seq 2); superfluous: 1 (origin 0, seq 1); the last such line is'])
+            'not for mote 0: each value of the lines "send" is the value of exactly 1 line "print process flood" of '
+            'mote 2; missing: 2 (origin 0, seq 2); the first line whose value is missing is',
+            'not for mote 2: the last line "print process flood" has the value of the last line "print process flood" '
+            'of mote 1; missing: 2 (origin 0, seq 2); superfluous: 1 (origin 0, seq 1); the last such line is'])
 
     def test_a_file_declares_the_format_of_packets(self) -> None:
         text = 'fields = { seq = "value % 16" }\nexpect = ["mote 0 sends with seq 1"]\n'

@@ -47,8 +47,10 @@ def mark_of(lines: Sequence[str]) -> tuple[int, str]:
 # Programs.
 
 @pytest.mark.parametrize('text, kind, line, column, word, may', [
-    *rows_of('program_errors.tsv'), ('process a;\ncode a { body { ' + 'yield; ' * 4097 + '} }', '8', '2', '28688', 'yield', '4,096'),
-    ('process a;\n// b\n\tcode a { body { print 01; } }', '1', '3', '23', '01', 'a number')], ids=lambda it: str(it)[:20])
+    *rows_of('program_errors.tsv'), ('process a;\ncode a { body { ' + 'yield; ' * 4097 + '} }', '8', '2', '28688',
+                                     'yield', '4,096'),
+    ('process a;\n// b\n\tcode a { body { print 01; } }', '1', '3', '23', '01', 'a number')],
+                         ids=lambda it: str(it)[:20])
 def test_the_first_error_of_a_program(text: str, kind: str, line: str, column: str, word: str, may: str) -> None:
     fault = reader.find_fault(text)
     if kind == '0':
@@ -66,7 +68,8 @@ def test_the_kinds_of_the_page() -> None:
 
 
 @pytest.mark.parametrize('quotes', ["'''", '"""'])
-@pytest.mark.parametrize('body, line, row', [('{\n  body { print 1; }\n}\n', 9, 3), ('  body { print 1; }\n}\n}\n', 11, 5)])
+@pytest.mark.parametrize('body, line, row',
+                         [('{\n  body { print 1; }\n}\n', 9, 3), ('  body { print 1; }\n}\n}\n', 11, 5)])
 def test_the_line_of_a_brace_is_its_own(quotes: str, body: str, line: int, row: int) -> None:
     text = scenario_of('process p; autostart p;\ncode p {\n' + body).replace("'''", quotes)
     shown = ' '.join(' '.join(explained(text)).split())
@@ -123,8 +126,8 @@ def test_an_empty_text_and_a_table_with_another_name() -> None:
     *((SCENARIO.encode(), it, None, 'This tool can\'t show the place of the error.') for it in (
         'out of memory', 'scenario fault 4', 'anything'))], ids=range(7))
 def test_what_is_no_scenario(data: bytes, line: str, number: int | None, said: str) -> None:
-    """A report, a sign that a terminal takes for a command, a byte that isn't UTF-8, a text that is too long, and errors
-    of which no place is known."""
+    """A report, a sign that a terminal takes for a command, a byte that isn't UTF-8, a text that is too long, and
+    errors of which no place is known."""
     lines = explain.explanation('s.toml', data, 'motesim: ' + line)
     assert any(it.startswith(said) for it in lines) and (not number or mark_of(lines)[0] == number)
 
@@ -137,14 +140,16 @@ def test_a_long_line_is_shown_around_the_mark() -> None:
 
 def test_each_line_of_the_scenarios_page_has_its_words() -> None:
     page = (TOP / 'docs/use/SCENARIO.md').read_text('utf-8').split('## Errors')[1].split('## Appendix')[0]
-    lines = {'program' if it.startswith('program ') else it for it in re.findall(r'^\| `motesim: ([^`]+)` \|', page, re.M)}
+    lines = {'program' if it.startswith('program ') else it
+             for it in re.findall(r'^\| `motesim: ([^`]+)` \|', page, re.M)}
     assert lines == {*scenario_faults.RULES}
 
 
 @pytest.mark.parametrize('count', [28, 500, 5_000])
 @pytest.mark.parametrize('form', ['n = %s1%s;', 'n = %sn + 1;', '%s', '%sn++;', '%s ', '%s  '])
 def test_texts_that_are_nested_deeply_are_explained_at_once(count: int, form: str) -> None:
-    begin = {'n = %s1%s;': '(', 'n = %sn + 1;': '!', '%s': 'while 1 {', '%sn++;': 'if (n == 1) ', '%s ': '{', '%s  ': 'n = f('}[form]
+    begin = {'n = %s1%s;': '(', 'n = %sn + 1;': '!', '%s': 'while 1 {', '%sn++;': 'if (n == 1) ', '%s ': '{',
+             '%s  ': 'n = f('}[form]
     body = form % (begin * count, ' + 1)' * count) if form.count('%s') == 2 else form % (begin * count)
     assert work_of(lambda: explained(changed('{ body { print 1; } }', '{ var n = 0; body { ' + body))) < 1000
 
@@ -176,11 +181,13 @@ def test_an_error_in_a_hint(old: str, new: str, failing: str, said: list[str]) -
     with mock.patch.object(explain, failing, side_effect=FAILED), mock.patch.dict(os.environ):
         os.environ.pop('MOTESIM_TRACEBACK', None)
         found = ' '.join(' '.join(explained(changed(old, new))).split())
-    assert 'because of an error in the tool itself: IndexError: of a tuple' in found and all(it.strip() in found for it in said)
+    assert 'because of an error in the tool itself: IndexError: of a tuple' in found
+    assert all(it.strip() in found for it in said)
 
 
 def test_an_error_in_a_warning() -> None:
-    with mock.patch.object(explain, 'all_warnings', side_effect=FAILED), contextlib.redirect_stdout(io.StringIO()) as said:
+    with mock.patch.object(explain, 'all_warnings',
+                           side_effect=FAILED), contextlib.redirect_stdout(io.StringIO()) as said:
         with mock.patch.object(explain, 'read_file', return_value=b'#'):
             assert explain.explain('a.toml', lambda data: Answer(0, b'', b'')) == 0
     assert 'a.toml has a report, and no error\nIts warnings aren\'t shown' in said.getvalue()

@@ -66,7 +66,8 @@ class Ends(unittest.TestCase):
 
     def test_an_interrupt_ends_with_130(self) -> None:
         words = [sys.executable, '-B', '-c', COMMAND % (str(TOOLS), "print('begun', flush=True); sys.stdin.read()")]
-        with subprocess.Popen(words, stdin=subprocess.PIPE, stdout=subprocess.PIPE, stderr=subprocess.PIPE, text=True) as running:
+        with subprocess.Popen(words, stdin=subprocess.PIPE, stdout=subprocess.PIPE, stderr=subprocess.PIPE,
+                              text=True) as running:
             assert running.stdout and running.stderr
             running.stdout.readline()
             running.send_signal(signal.SIGINT)

@@ -1,4 +1,5 @@
-"""Runs with faults by motecheck, and by a net written from docs/use/TESTING.md and REPORT.md, with the replay's motes."""
+"""Runs with faults by motecheck, and by a net written from docs/use/TESTING.md and REPORT.md, with the replay's
+motes."""
 import os
 import random
 import re
@@ -23,14 +24,20 @@ SETS = int(os.environ.get('FAULT_SETS', '3'))  # of each kind in each net
 CODE = 'process p; autostart p; receiver p; code p { var n = 0; etimer t; body { %s } }'
 # Nets whose motes have much to forget.
 MORE = {
-    'motes that halt': (TRIANGLE, CODE % 'send 1; yield_until is(packet); set t 9; yield_until fired(t); send 2; while 1 { }'),
+    'motes that halt': (TRIANGLE,
+                        CODE % 'send 1; yield_until is(packet); set t 9; yield_until fired(t); send 2; while 1 { }'),
     'full rings': (PAIR, CODE % 'while (n < 12) { n = (n + 1); send n; } while 1 { yield; n = (n + data); print n; }'),
-    'queues that are never empty': (PAIR, CODE % 'while (n < 640) { n = (n + 1); if ((n % 99) == 5) { send n; } pause; }'),
+    'queues that are never empty': (PAIR,
+                                    CODE % 'while (n < 640) { n = (n + 1); if ((n % 99) == 5) { send n; } pause; }'),
     'processes that are gone': (LINE, '''
 semaphore s = 1;
 process a, b; autostart b, a; receiver b;
 code a { ctimer c { signal s; poll b; send count(s); } body { while 1 { set c 9; yield_until gone(b); start b; } } }
-code b { var k = 0; onexit { print 8; } body { acquire s; k = (k + 1); yield_until is(packet); print (k + data); exit; } }
+code b {
+  var k = 0;
+  onexit { print 8; }
+  body { acquire s; k = (k + 1); yield_until is(packet); print (k + data); exit; }
+}
 '''),
     'five numbers, of which one is lost': (PAIR, REPEAT.replace('n < 2', 'n < 5').replace('done == 2', 'done == 5')),
 }
@@ -187,7 +194,8 @@ class Apart(unittest.TestCase):
         passes_on = ['%d post 0 flood packet 7', '%d take 0 flood', '%d print flood 7']
         for faults, mote, lines in [
                 # (what arrives at the moment of a boot is heard, and a mote that waits for no moment boots too)
-                (['mote 1 restarts at 13'], 1, [(0, boot[1:]), (13, [*boot, '%d recv 0 0 7', *passes_on, '%d send 0 7'])]),
+                (['mote 1 restarts at 13'], 1,
+                 [(0, boot[1:]), (13, [*boot, '%d recv 0 0 7', *passes_on, '%d send 0 7'])]),
                 # (packets are counted on, and what was sent before arrives)
                 (['mote 0 restarts at 11'], 1, [(0, boot[1:]), (13, ['%d recv 0 0 7', *passes_on, '%d send 0 7'])]),
                 # (a boot inside another time off isn't one; two at one moment are one)

@@ -1,4 +1,5 @@
-"""The table of docs/use/LANGUAGE.md for those who know Contiki: each piece of the notation in its right column is one, and runs."""
+"""The table of docs/use/LANGUAGE.md for those who know Contiki: each piece of the notation in its right column is one,
+and runs."""
 import re
 import unittest
 
@@ -15,7 +16,8 @@ MOST = 45
 TOP_LINES = {'event': 'event go;', 'semaphore': 'semaphore s = 2;', 'process': 'process a, b;',
              'autostart': 'autostart a, b;', 'receiver': 'receiver a;'}
 PARTS = {'var': 'var x = 1; var y = 1; var z = 1; var i = 1; var done = 1; var a0 = 1; var a1 = 1;',
-         'etimer': 'etimer t;', 'ctimer': 'ctimer c { x = (x + 1); }', 'thread': 'thread sub { print x; }', 'onpoll': ''}
+         'etimer': 'etimer t;', 'ctimer': 'ctimer c { x = (x + 1); }', 'thread': 'thread sub { print x; }',
+         'onpoll': ''}
 
 
 def program(piece: str) -> str | None:

@@ -32,7 +32,8 @@ class Gate(Room):
 
     def run_it(self, *words: str, path: str | None = None) -> tuple[list[str], int]:
         here = {**os.environ, 'PATH': path or '%s:%s' % (self.room / 'bin', os.environ['PATH'])}
-        done = subprocess.run([str(self.room / 'test'), *words], env=here, capture_output=True, text=True, timeout=SECONDS)
+        done = subprocess.run([str(self.room / 'test'), *words], env=here, capture_output=True, text=True,
+                              timeout=SECONDS)
         return done.stdout.splitlines(), done.returncode
 
     def test_all_steps_are_added_up(self) -> None:
@@ -64,10 +65,12 @@ class Gate(Room):
         said = ' '.join(lines[next(place for place, it in enumerate(lines) if it.startswith('== not checked')):-2])
         gate = (TOP / 'test').read_text('utf-8')
         only = set(re.findall('try tools/(?:dev/)?(\\w+)', gate.partition('try tools/dev/check_module program 9')[2]))
-        self.assertTrue(only | {'rt ci', 'wrong_bodies', 'check_module --build'} <= set(re.findall(r'[\w-]+(?: ci| --build)?', said)), said)
+        self.assertTrue(only | {'rt ci', 'wrong_bodies',
+                                'check_module --build'} <= set(re.findall(r'[\w-]+(?: ci| --build)?', said)), said)
 
     def test_its_steps_end_with_it_however_it_ends(self) -> None:
-        ends: list[tuple[int, list[str]]] = [(signal.SIGTERM, ['--quick']), (signal.SIGKILL, ['--quick']), (signal.SIGKILL, [])]
+        ends: list[tuple[int, list[str]]] = [(signal.SIGTERM, ['--quick']), (signal.SIGKILL, ['--quick']),
+                                             (signal.SIGKILL, [])]
         for number, words in ends:
             self.put_program('tools/dev/test_tools', 'setsid "$0.below" & setsid "$0.below"')
             self.put_program('tools/dev/test_tools.below', 'echo $$ >>"%s"; %s' % (self.put('begun'), HOLDS))
@@ -107,7 +110,8 @@ class Packages(Room):
         for name in 'test', 'tools/dev/packages.txt':
             shutil.copy(TOP / name, self.room / name)
         here = {**os.environ, 'PATH': '%s:%s' % (self.room / 'bin', os.environ['PATH'])}
-        done = subprocess.run([self.room / 'test', '--quick', *words], env=here, capture_output=True, text=True, timeout=SECONDS)
+        done = subprocess.run([self.room / 'test', '--quick', *words], env=here, capture_output=True, text=True,
+                              timeout=SECONDS)
         self.assertRegex(done.stdout.splitlines()[-1], r'^0 passed, \d+ failed, 0 skipped$')
         before = done.stdout.partition('== not checked')[0]
         return [it for it in before.splitlines() if 'not run' not in it], calls.read_text()
@@ -170,7 +174,8 @@ class UnitTests(Room):
         def of(*names: str) -> list[Any]:
             return [SimpleNamespace(nodeid=it) for it in names]
         said, session = list[str](), SimpleNamespace(sched=SimpleNamespace(collection=['a', 'b', 'c', 'd']))
-        config = SimpleNamespace(getoption=lambda name: 0, pluginmanager=SimpleNamespace(getplugin=lambda name: session))
+        config = SimpleNamespace(getoption=lambda name: 0,
+                                 pluginmanager=SimpleNamespace(getplugin=lambda name: session))
         counts.pytest_terminal_summary(SimpleNamespace(config=config, write_line=said.append, stats={
             'passed': of('a', 'b'), 'error': of('b'), 'failed': of('c', 'c')}))
         self.assertEqual(said, ['not run: d: its worker was killed', '1 passed, 3 failed, 0 skipped'])

@@ -79,7 +79,8 @@ def test_whatever_there_is_becomes_a_row_and_none_stops_the_others(room: Class) 
     os.mkfifo(room.folder / 'pipe.toml')
     long, utf16 = 'b%sn.toml' % ('e' * 238), GOOD.encode('utf-16')
     for name, text in (('deep.toml', 'x = ' + '[' * 500), ('key.toml', '.'.join(['a'] * 100_000) + ' = 1'),
-                       ('zoe.toml.txt', GOOD), ('large.toml', '#' * 1_048_577), ('new\nline.toml', GOOD), ('=1+1.toml', GOOD),
+                       ('zoe.toml.txt', GOOD), ('large.toml', '#' * 1_048_577), ('new\nline.toml', GOOD),
+                       ('=1+1.toml', GOOD),
                        (os.fsdecode(b'raw\xff.toml'), GOOD), ('group/eve.toml', GOOD), (long, WRONG)):
         room.hand_in(name, text)
     for name in 'word.mote', 'bytes.toml':
@@ -92,7 +93,8 @@ def test_whatever_there_is_becomes_a_row_and_none_stops_the_others(room: Class) 
         assert re.match('0 of 3 .*' + said, rows.pop(name)), name
     assert rows.pop('zoe.toml.txt').startswith('- of 3')
     assert rows.pop('b%s..%sn.toml' % ('e' * 18, 'e' * 13)) == '1 of 3  broken: 1, 2'
-    assert rows == dict.fromkeys(['=1+1.toml', 'anna.toml', 'group/eve.toml', 'new\\nline.toml', 'raw\\xff.toml'], '3 of 3')
+    assert rows == dict.fromkeys(['=1+1.toml', 'anna.toml', 'group/eve.toml', 'new\\nline.toml', 'raw\\xff.toml'],
+                                 '3 of 3')
     page = (room.top / 'marks.html').read_text('utf-8')
     assert '<td title="%s">be' % long in page and '\ufffd' not in page
 
@@ -121,7 +123,8 @@ def test_the_net_stays_as_it_is() -> None:
     path = TOOLS.parent / 'examples/small_network.toml'
     before = Scenario.parse(path.read_bytes())
     after = Scenario.parse(nets_of([path], [], 'sender')[0].with_program('process other;'))
-    assert vars(after) == {**vars(before), 'text': after.text, 'programs': {**before.programs, 'sender': 'process other;'}}
+    assert vars(after) == {**vars(before), 'text': after.text,
+                           'programs': {**before.programs, 'sender': 'process other;'}}
 
 
 def test_no_two_pages_fill_the_same_folder() -> None:

@@ -1,8 +1,8 @@
 """The modules that scripts load: `import motesim` is quick as long as they are few.
 
-Only `expect`, `search` and `why` need more lines than the others: `expect` reads expectations and the scenario's programs, makes
-claims of them, runs `motecheck`, and finds in the report's lines why an expectation is broken; `search` has it
-survey faults; `why` runs motes again.
+Only `expect`, `search` and `why` need more lines than the others: `expect` reads expectations and the scenario's
+programs, makes claims of them, runs `motecheck`, and finds in the report's lines why an expectation is broken;
+`search` has it survey faults; `why` runs motes again.
 """
 import subprocess
 import sys

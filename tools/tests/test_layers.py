@@ -1,5 +1,5 @@
-"""The layers of the tools: imports lead only to the packages that ARCHITECTURE allows, and those are lower ones. And the
-times in tests, which are those of here.py."""
+"""The layers of the tools: imports lead only to the packages that ARCHITECTURE allows, and those are lower ones. And
+the times in tests, which are those of here.py."""
 import ast
 import re
 import unittest
@@ -38,8 +38,14 @@ class Layers(unittest.TestCase):
                 if package in may and own not in EDGES:
                     self.assertIn(package, [own, *may.get(own, [])], path)
 
+    def test_a_line_has_at_most_120_characters(self) -> None:
+        for folder in 'tools', 'tests', 'examples':
+            for path in sorted((TOP / folder).rglob('*.py')):
+                self.assertLessEqual(max(map(len, ['', *path.read_text('utf-8').split('\n')])), 120, path)
+
     def test_no_test_waits_for_a_time(self) -> None:
-        time = re.compile(r'\b(sleep|setTimeout|time\.(monotonic|process_time|perf_counter))\b|\b(timeout=|wait\(|join\()[0-9]')
+        time = re.compile(
+            r'\b(sleep|setTimeout|time\.(monotonic|process_time|perf_counter))\b|\b(timeout=|wait\(|join\()[0-9]')
         for path in sorted([*TOP.glob('tests/*.py'), *TOOLS.glob('tests/*.py'), *TOOLS.glob('tests/*/*.js'),
                             *TOOLS.glob('tests/texts/*.txt')]):
             if path.name != 'here.py':

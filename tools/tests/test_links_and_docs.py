@@ -63,14 +63,16 @@ class LinksAndDocs(unittest.TestCase):
         for path in files('docs/*/*.md'):
             text = path.read_text('utf-8')
             self.assertEqual(pages.page_of(text), text, '%s: tools/dev/pages writes it' % path.name)
-        changed = (TOP / 'docs/use/SCENARIO.md').read_text('utf-8').replace('| `medium` | `range` |', '| `medium` | `reach` |')
+        page = (TOP / 'docs/use/SCENARIO.md').read_text('utf-8')
+        changed = page.replace('| `medium` | `range` |', '| `medium` | `reach` |')
         self.assertNotEqual(pages.page_of(changed), changed)
 
     def test_the_citation_is_about_this_version(self) -> None:
         text = (TOP / 'CITATION.cff').read_text('utf-8')
         found = dict(re.findall(r'^([a-z-]+): *(.*)$', text, re.M))
         self.assertLessEqual({'authors', 'cff-version', 'message', 'title'}, set(found))
-        self.assertEqual((found['version'], found['cff-version'], found['type']), ('"%s"' % VERSION, '1.2.0', 'software'))
+        self.assertEqual((found['version'], found['cff-version'], found['type']),
+                         ('"%s"' % VERSION, '1.2.0', 'software'))
         changes = (TOP / 'CHANGES.md').read_text('utf-8')
         self.assertIn('## %s, %s\n' % (VERSION, found['date-released']), changes)
 

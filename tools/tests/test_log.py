@@ -1,5 +1,5 @@
-"""The chronological log. What is expected comes from the report's lines, put in order by Python's own sort. What the command
-says is in sessions/log.toml."""
+"""The chronological log. What is expected comes from the report's lines, put in order by Python's own sort. What the
+command says is in sessions/log.toml."""
 import pytest
 from here import TOP, text_of
 from motesim.faults import Fault

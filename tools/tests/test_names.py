@@ -1,5 +1,5 @@
-"""One name, one thing: a type, and a definition whose name begins with a capital, stands once in all crates. And contracts
-rest on definitions: they cite no proofs."""
+"""One name, one thing: a type, and a definition whose name begins with a capital, stands once in all crates. And
+contracts rest on definitions: they cite no proofs."""
 import re
 import unittest
 from collections import defaultdict
@@ -10,13 +10,15 @@ from here import TOP
 TYPE = re.compile(r'^(?:pub(?:\(\w+\))? )?(?:struct|enum|trait|type) (\w+)', re.MULTILINE)
 DEFINITION = re.compile(r"^(?:abbrev )?(?:pub )?(?:record |data )?(?:pub )?([A-Z][\w'-]*)(?=[^\n]*:)", re.MULTILINE)
 CITED = re.compile(r'\bRattle\.(\w+)\.proofs\b')
-# Names of two things or more: a better name is worth more than a row here. `simulation` and `claim_check` each have a command
-# line, which is defined in the same words.
-COMMAND_LINES = {'Asked', 'Options', 'AskedIn', 'AsksFor', 'Commands', 'FaultOf', 'RefusesWords', 'Reported', 'ReturnsSome'}
-SHARED_TYPES = {'Count', 'Entry', 'Fault', 'Found', 'Limits', 'Part', 'Place', 'Reach', 'Reader', 'Scope', 'Timer', 'Waiting'}
-SHARED_DEFINITIONS = {'Answer', 'Answered', 'AreAnswers', 'Extends', 'Grows', 'IsAt', 'IsCopyOf', 'IsInside', 'IsRefused',
-                      'IsSettled', 'IsSound', 'IsWithinLimits', 'Looks', 'LossTablesAgree', 'OrderMeansNothing', 'Refuses',
-                      'RefusesFaults', 'Runs', 'RunsWith', 'UnsentIsNothing'}
+# Names of two things or more: a better name is worth more than a row here. `simulation` and `claim_check` each have a
+# command line, which is defined in the same words.
+COMMAND_LINES = {'Asked', 'Options', 'AskedIn', 'AsksFor', 'Commands', 'FaultOf', 'RefusesWords', 'Reported',
+                 'ReturnsSome'}
+SHARED_TYPES = {'Count', 'Entry', 'Fault', 'Found', 'Limits', 'Part', 'Place', 'Reach', 'Reader', 'Scope', 'Timer',
+                'Waiting'}
+SHARED_DEFINITIONS = {'Answer', 'Answered', 'AreAnswers', 'Extends', 'Grows', 'IsAt', 'IsCopyOf', 'IsInside',
+                      'IsRefused', 'IsSettled', 'IsSound', 'IsWithinLimits', 'Looks', 'LossTablesAgree',
+                      'OrderMeansNothing', 'Refuses', 'RefusesFaults', 'Runs', 'RunsWith', 'UnsentIsNothing'}
 # The answers of a `Trial` come with a proof that they are what a survey rests on, which only a lemma can give.
 GIVES_A_PROOF = {'crates/net_survey/src/net_trial.rt'}
 

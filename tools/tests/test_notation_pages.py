@@ -56,7 +56,8 @@ class Tables(unittest.TestCase):
                     self.assertIsNone(find_fault(PROGRAM % line))
 
     def test_the_statements_and_expressions_of_the_quick_reference(self) -> None:
-        statements = [it for row in cells(page('LANGUAGE.md'), '| Statement | What it does |') for it in programs(row[0])]
+        statements = [it for row in cells(page('LANGUAGE.md'), '| Statement | What it does |')
+                      for it in programs(row[0])]
         self.assertEqual(len(statements), 25)
         for form in statements:
             with self.subTest(form):
@@ -109,7 +110,8 @@ class Card(unittest.TestCase):
         assert program
         self.assertIsNone(find_fault(program[1]))
         parts = dict(re.findall(r'^## (\w+)\n(.*?)(?=^## |\Z)', text, re.M | re.S))
-        forms = {row[0]: row[1] for part in parts.values() for row in re.findall(r'^\| ([^|]+?) \| (.*) \|$', part, re.M)}
+        forms = {row[0]: row[1] for part in parts.values()
+                 for row in re.findall(r'^\| ([^|]+?) \| (.*) \|$', part, re.M)}
         for row in 'doing', 'waiting', 'timers', 'processes':
             for form in programs(forms[row]):
                 with self.subTest(form):

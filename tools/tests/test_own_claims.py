@@ -33,7 +33,8 @@ class Deciding(Room):
         return int(ended.exception.code or 0), out.getvalue() + err.getvalue()
 
     def test_a_scenario_without_a_file_has_its_own_claims(self) -> None:
-        self.assertEqual(self.expect('# expect: %s\n%s' % (HOLDS, NET)), (0, 'holds   %s\n1 passed, 0 failed\n' % HOLDS))
+        self.assertEqual(self.expect('# expect: %s\n%s' % (HOLDS, NET)),
+                         (0, 'holds   %s\n1 passed, 0 failed\n' % HOLDS))
         status, said = self.expect('# expect: %s\n# expect: %s\n%s' % (HOLDS, BROKEN, NET))
         self.assertEqual(status, 1)
         self.assertIn('broken  %s\n          not for %s; line 5' % (BROKEN, BROKEN), said)
@@ -43,7 +44,8 @@ class Deciding(Room):
         self.put('net.expect.toml', 'expect = ["mote 0 sends once"]')
         text = '# expect: %s\n%s' % (HOLDS, NET)
         self.assertEqual(self.expect(text), (0, 'holds   mote 0 sends once\nholds   %s\n2 passed, 0 failed\n' % HOLDS))
-        self.assertEqual(self.expect(text, '--expect', 'no mote halts')[1], 'holds   no mote halts\n1 passed, 0 failed\n')
+        self.assertEqual(self.expect(text, '--expect', 'no mote halts')[1],
+                         'holds   no mote halts\n1 passed, 0 failed\n')
 
     def test_a_claim_that_can_not_be_read_and_a_refused_scenario_are_said(self) -> None:
         for text, said in (('# expect: nonsense\n' + NET, 'claims fault line 1 column 1'),

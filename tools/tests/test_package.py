@@ -39,8 +39,8 @@ class Package(Room):
         if made[0]:
             self.skipTest('venv: ' + made[2])
         python, motesim = 'there/bin/python', 'there/bin/motesim'
-        self.assertEqual(run(python, '-m', 'pip', 'install', '-q', '--no-index', '--disable-pip-version-check', str(TOP)),
-                         (0, '', ''))
+        self.assertEqual(run(python, '-m', 'pip', 'install', '-q', '--no-index', '--disable-pip-version-check',
+                             str(TOP)), (0, '', ''))
         inside = run(python, '-c', 'import motesim; print(motesim.__file__)')[1]
         self.assertTrue(inside.startswith(str(self.room / 'there')), inside)
         help = run(motesim)[1]
@@ -70,8 +70,9 @@ class OneCommand(Room):
         self.assertEqual(status, 2)
         self.assertIn('motesim explain net.toml', said)
         self.assertIn('tools/explain net.toml', call('summary', 'net.toml', cwd=self.room).stderr)
-        self.assertTrue(self.run_it('expect', '--help')[1].startswith('usage: motesim expect SCENARIO [EXPECTATIONS] [options]\n'))
-        self.assertTrue(call('expect', '--help').stdout.startswith('usage: tools/expect SCENARIO [EXPECTATIONS] [options]\n'))
+        usage = 'usage: %s SCENARIO [EXPECTATIONS] [options]\n'
+        self.assertTrue(self.run_it('expect', '--help')[1].startswith(usage % 'motesim expect'))
+        self.assertTrue(call('expect', '--help').stdout.startswith(usage % 'tools/expect'))
 
     def test_a_file_is_run_and_an_error_is_explained(self) -> None:
         self.put('net.toml', 'version = 1\n')
@@ -80,12 +81,13 @@ class OneCommand(Room):
             self.assertEqual((status, out), (2, ''))
             self.assertIn('net.toml has no `end`.', said)
         self.assertEqual(self.run_it('two.toml')[0], 2)
-        self.assertEqual(self.run_it('serch'), (2, '', 'motesim: there is no command and no file serch; did you mean search?\n'))
+        self.assertEqual(self.run_it('serch'),
+                         (2, '', 'motesim: there is no command and no file serch; did you mean search?\n'))
         self.assertRegex(self.run_it('--version')[1], 'motesim [0-9]')
 
     def test_bash_completes_verbs_options_and_values(self) -> None:
         script = self.put('completion', self.run_it('completion')[1])
-        for typed, found in ((['se'], 'search'), (['export', '--to', 'p'], 'pcapng'),
+        for typed, found in ((['se'], 'search'), (['export', '--to', 'co'], 'contiki'),
                              (['sweep', '--rene'], '--renew'), (['why', 'compl'], 'completion')):
             shell = 'source %s; COMP_WORDS=(motesim %s); COMP_CWORD=%d; _motesim; echo "${COMPREPLY[@]}"' % (
                 script, ' '.join(typed), len(typed))

@@ -1,4 +1,5 @@
-"""What the page without a server takes care of: texts that nobody loses, sentences that stay true, and answers in view."""
+"""What the page without a server takes care of: texts that nobody loses, sentences that stay true, and answers in
+view."""
 from __future__ import annotations
 
 import json
@@ -38,7 +39,8 @@ class Sentences(InPage):
         self.later()
         self.type_over('every = ', 'every = 1')
         self.wait('m.differs.first')
-        self.assertEqual(self.said(), 'Mote 1 prints 1 at 49 instead of 43. First different at moment 40, in the packets.')
+        self.assertEqual(self.said(),
+                         'Mote 1 prints 1 at 49 instead of 43. First different at moment 40, in the packets.')
 
     def test_the_line_of_an_error_is_that_beside_the_text(self) -> None:
         self.open()
@@ -125,8 +127,8 @@ class Texts(InPage):
     def test_a_worker_that_read_a_long_report_is_ended(self) -> None:
         self.open()
         self.wait('m.backend.front.worker')
-        self.put(FLOODING.replace('end = 160', 'end = 500').replace('(is(packet) && (data > newest))', 'is(packet)').replace(
-            'newest < 3', 'newest < 60'))
+        self.put(FLOODING.replace('end = 160', 'end = 500').replace('newest < 3', 'newest < 60').replace(
+            '(is(packet) && (data > newest))', 'is(packet)'))
         self.wait('run.rows > 200000 && !m.backend.front.worker')
 
     def test_a_closing_brace_goes_back_to_its_block(self) -> None:
@@ -177,8 +179,9 @@ class Answers(InPage):
         self.open()
         self.press('play')
         line = self.value('run.prints[24][0]')
-        x, y = self.value('((box, line) => { pane.zoomLanes(0.3); m.drawAll(); return [box.x + pane.x(run.at[line] + 0.5), '
-                          'box.y + pane.laneTop(24) + pane.lane / 2]; })(pane.canvas.getBoundingClientRect(), %d)' % line)
+        x, y = self.value('((box, line) => { pane.zoomLanes(0.3); m.drawAll(); return [box.x + pane.x(run.at[line] + '
+                          '0.5), box.y + pane.laneTop(24) + pane.lane / 2]; })'
+                          '(pane.canvas.getBoundingClientRect(), %d)' % line)
         self.browser.click(x, y)
         self.assertEqual(self.value('run.text(m.chosen.line)'), self.value('run.text(%d)' % line))
 
@@ -220,8 +223,8 @@ class Answers(InPage):
         self.press('help')
         self.wait('by("reference").open')
         shown = self.value('by("reference").innerText')
-        for words in 'returns YIELDED once, and continues at the next call', 'one operator per pair of parentheses', 'GROUP   =', \
-                'if (x == 1) { y = 1; } else { if (x == 2)':
+        for words in 'returns YIELDED once, and continues at the next call', 'one operator per pair of parentheses', \
+                'GROUP   =', 'if (x == 1) { y = 1; } else { if (x == 2)':
             self.assertIn(words, shown)
         self.assertNotRegex(shown, r'\]\(|\\\|')
         self.key('Escape')

@@ -5,11 +5,13 @@ import json
 
 from in_page import FLOODING, InPage
 
-# What is written instead of a part of the program or of the tables; the words of the error; and the place that is marked.
+# What is written instead of a part of the program or of the tables; the words of the error; and the place that is
+# marked.
 ERRORS = [
     ('send newest', 'send newst', 'Did you mean `newest`?', 'newst'),
     ('if (self == 0)', 'if (self = 0)', '`=` assigns, and `==` compares.', '='),
-    ('newest = (newest + 1);', 'newest = newest + 1;', 'Two values with `+` between them are in parentheses: `(newest + 1)`.', None),
+    ('newest = (newest + 1);', 'newest = newest + 1;',
+     'Two values with `+` between them are in parentheses: `(newest + 1)`.', None),
     ('print newest;', 'print newest', '`;` is missing behind `newest`.', None),
     ('(newest < 3)', '(newest < 3', '`)` is missing behind `3`.', None),
     ('var newest = 0;', 'int newest = 0;', 'Variables are declared at the head of a `code`', 'int'),
@@ -28,7 +30,8 @@ class Errors(InPage):
             self.put(wrong)
             self.wait('by("fault").textContent.includes(%s)' % json.dumps(words))
             if marked:
-                self.assertEqual(self.value('(([row, from, to]) => text.split("\\n")[row].slice(from, to))(web.fault.place)'), marked)
+                its = self.value('(([row, from, to]) => text.split("\\n")[row].slice(from, to))(web.fault.place)')
+                self.assertEqual(its, marked)
             self.press('fault-correct')
             self.wait('by("fault").hidden && !document.body.classList.contains("stale")')
             self.assertEqual(self.value('text.replace(/\\s+$/gm, "")'), '\n'.join(

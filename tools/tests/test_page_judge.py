@@ -1,5 +1,5 @@
-"""Sentences and reports by chance: their claims have the verdicts of a judge that was written from the page alone, what is
-broken has a reason, and so has a question to tools/why."""
+"""Sentences and reports by chance: their claims have the verdicts of a judge that was written from the page alone,
+what is broken has a reason, and so has a question to tools/why."""
 import os
 import random
 import unittest
@@ -34,7 +34,8 @@ class Verdicts(unittest.TestCase):
             scenario, report, motes = net_of(chance)
             page, its = PageJudge(scenario, report), Scenario.parse(scenario)
             whole = Finder(Report.parse(report), its)
-            names, sentences, asker = names_of(its), Sentences(chance, motes), Asker(Source('test', Report.parse(report), its))
+            names, sentences = names_of(its), Sentences(chance, motes)
+            asker = Asker(Source('test', Report.parse(report), its))
             for text, meaning in (sentences.sentence() for _ in range(SENTENCES)):
                 with self.subTest(seed=seed, sentence=text), suppress(NoClaim), deciding_by(report):
                     sentence, holds = read_sentence(text, names), page.holds(meaning)
@@ -42,11 +43,13 @@ class Verdicts(unittest.TestCase):
                     self.assertEqual(broken is None, holds, report)
                     found[holds] += 1
                     answers[self.answer(asker, sentence, broken)] += 1
-        self.assertEqual(set(answers), {'line', 'line that breaks it', 'missing', 'no line', 'no line breaks it'}, answers)
+        self.assertEqual({*answers}, {'line', 'line that breaks it', 'missing', 'no line', 'no line breaks it'},
+                         answers)
         self.assertGreater(min(found), sum(found) / 4, 'too few expectations hold, or too few are broken')
 
     def answer(self, asker: Asker, sentence: Sentence, broken: Broken | None) -> str:
-        """The kind of the answer to the question about a sentence; it has the same verdict, and the line of the reason."""
+        """The kind of the answer to the question about a sentence; it has the same verdict, and the line of the
+        reason."""
         try:
             found = asker.answer(sentence)
         except Unasked as unasked:

@@ -28,9 +28,9 @@ from motesim.timeline.bundle import BundleFault, bundle, imports_of, modules_of
 from motesim.timeline.columns import data_of
 from motesim.toml import read_toml
 from motesim.causes.chain import chain
-from motesim.causes.pages import causes_of, source_of
+from motesim.causes.pages import causes_of
 from motesim.causes.say import because
-from motesim.causes.source import At
+from motesim.causes.source import At, source_of
 from project.differential.random_scenario import random_scenario
 
 # The folders of modules, each of which imports only from those before it and from itself.
@@ -209,7 +209,8 @@ def data(tmp_path_factory: pytest.TempPathFactory) -> str:
                               'found': difference(run, after)})
     path = tmp_path_factory.mktemp('page') / 'data.json'
     path.write_text(json.dumps({
-        'kinds': list(KINDS), 'words': {'colours': COLOURS, 'naming': NAMING}, 'corrections': rules(), 'differences': found,
+        'kinds': list(KINDS), 'words': {'colours': COLOURS, 'naming': NAMING}, 'corrections': rules(),
+        'differences': found,
         'runs': {name: run_given(*it) for name, it in runs.items()},
         'chains': [it for name, places in CHAINS.items() for it in chains_of(runs[name][0], places)],
         'texts': [{'text': text, 'tables': read_toml(text)} for text in

@@ -24,7 +24,8 @@ SINK = 'process b;\ncode b { body { } }\n'
 FILES = {'flood.mote': MOTE, 'sink.mote': SINK, 'Bad Name.mote': SINK,
          'wrong.mote': 'process a;\ncode a { body { x = 1; } }\n',
          'places.csv': 'x,y,program\n0,0,flood.mote\n-3, 40 ,sink.mote\n', 'few.csv': 'x,y\n1,2\n3\n',
-         'far.csv': 'y,x\n0,40000\n', 'losses.csv': 'from,to,every\n0,1,3\n1,0,4\n', 'self.csv': 'from,to,every\n1,1,3\n'}
+         'far.csv': 'y,x\n0,40000\n', 'losses.csv': 'from,to,every\n0,1,3\n1,0,4\n',
+         'self.csv': 'from,to,every\n1,1,3\n'}
 
 # Rules of places, each with the SHA-256 of the scenario that they make: it is the same on any machine.
 RULES = {rule: digest for rule, digest in rows_of('place_rules.tsv')}
@@ -92,7 +93,8 @@ def test_a_larger_net_of_one_seed_contains_the_smaller_one() -> None:
     assert net(text, step=40).places[:20] == net(text, step=20).places
 
 
-@pytest.mark.parametrize('side, least, said', [(1000, 1, 'more motes, a smaller area'), (2, 9, 'fewer motes, a larger area')])
+@pytest.mark.parametrize('side, least, said',
+                         [(1000, 1, 'more motes, a smaller area'), (2, 9, 'fewer motes, a larger area')])
 def test_what_cannot_be_met_is_told(side: int, least: int, said: str) -> None:
     rule = 'rule = "random"\ncount = 9\nwidth = %d\nheight = %d\nseed = 1\nleast = %d\nconnected = true'
     seen = refusal(with_places(rule % (side, side, least)).replace('range = 10', 'range = 1'))
@@ -143,7 +145,8 @@ def test_it_is_the_net_of_the_flooding_example() -> None:
 
 @pytest.mark.parametrize('motes', ['0, 3 to 4', '0 and 3 to 4'])
 def test_groups_stand_in_order_and_others_run_what_they_are_told(motes: str) -> None:
-    scenario = net(PLAN.replace('[places]', '[[places]]') + '[[places]]\nrule = "line"\ncount = 2\nstep = 1\nprogram = "sink.mote"'
+    scenario = net(PLAN.replace('[places]', '[[places]]') +
+                   '[[places]]\nrule = "line"\ncount = 2\nstep = 1\nprogram = "sink.mote"'
                    '\n[[other]]\nmotes = "%s"\nprogram = "sink.mote"\n[queue]\nflood = 5\n' % motes)
     assert [number for number, place in enumerate(scenario.places) if place.program == 'sink'] == [0, 3, 4, 25, 26]
     assert scenario.queue == {'flood': 5}
@@ -224,7 +227,8 @@ def test_a_program_with_an_error_or_in_another_encoding() -> None:
 
 
 def test_whatever_stands_there_is_an_error_or_a_scenario() -> None:
-    text = PLAN.replace('[places]', '[[places]]') + ('[[other]]\nmotes = 3\nprogram = "sink.mote"\n[queue]\nsink = 3\n[sweep]\n'
+    text = PLAN.replace('[places]',
+                        '[[places]]') + ('[[other]]\nmotes = 3\nprogram = "sink.mote"\n[queue]\nsink = 3\n[sweep]\n'
                                                      'measure = ["sent"]\n[[plot]]\nfile = "a.svg"\n')
     lines = (text + ''.join('[[places]]\nprogram = "sink.mote"\n%s\n' % rule for rule in RULES)).split('\n')
     values = ['-1', '0', '3', '99999999999999999999', '1.5', 'nan', '"x"', '"${step}"', '"${"', 'true', '[]',

@@ -41,7 +41,8 @@ class Pictures(Room):
             self.assertGreater(len(lines), 2)
 
     def test_the_texts_of_a_picture(self) -> None:
-        done = self.plot('--measure sent --by density --against period -o a.svg --title', 'How it goes', '--y', 'packets')
+        done = self.plot('--measure sent --by density --against period -o a.svg --title', 'How it goes', '--y',
+                         'packets')
         self.assertEqual(done.stdout.splitlines(), ['a.svg', 'left out: 1 run with an error'])
         texts = [it.text for it in ElementTree.parse(self.room / 'a.svg').iter() if it.tag.endswith('}text')]
         self.assertLess({'How it goes', 'density thin', 'density dense', 'period', 'packets'}, set(texts))

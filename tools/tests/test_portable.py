@@ -56,7 +56,8 @@ parameters = { period = 4 }
 places = { rule = "line", count = 3, step = 10, program = "p.mote" }
 sweep = { vary = { period = "1..6" }, measure = ["prints", "seen = holds: mote 1 prints p"] }
 '''
-PROGRAM = 'process p; autostart p; receiver p; code p { body { send ${period}; yield_until is(packet); print data; } }\n'
+PROGRAM = ('process p; autostart p; receiver p; '
+           'code p { body { send ${period}; yield_until is(packet); print data; } }\n')
 SHRINK = 'shrink news.toml "mote 2 prints news 7" --fault "link 1 to 2 is broken" --fault "link 4 to 2 is broken"'
 
 
@@ -89,8 +90,10 @@ def environment(room: Path) -> dict[str, str]:
 @pytest.mark.parametrize('command, status, said', [
     ('run_program news.toml', 0, 'left 0'), ('run_program wrong.toml', 2, 'Did you mean `print`?'),
     ('expect news.toml', 0, '0 failed'), ('summary news.toml', 0, 'received'), ('explain news.toml', 0, 'no error'),
-    ('timeline news.toml', 0, 'news.html'), ('log news.toml', 0, 'news'), ('why news.toml "mote 2 prints news 7"', 0, 'news'),
-    ('compare news.toml news.toml', 0, 'same'), ('sweep net.plan.toml --jobs 2', 0, '6 runs, 6 of them now, 0 with an error'),
+    ('timeline news.toml', 0, 'news.html'), ('log news.toml', 0, 'news'),
+    ('why news.toml "mote 2 prints news 7"', 0, 'news'),
+    ('compare news.toml news.toml', 0, 'same'),
+    ('sweep net.plan.toml --jobs 2', 0, '6 runs, 6 of them now, 0 with an error'),
     ('search news.toml --links --most-runs 9 --jobs 2', 2, 'NOT'), (SHRINK, 0, 'news.small.toml breaks'),
     ('grade solutions news.expect.toml --jobs 2', 0, 'anna'), ('motecheck --links news.toml claims', 0, 'covered')])
 def test_a_tool_needs_nothing_that_only_linux_has(command: str, status: int, said: str, room: Path) -> None:

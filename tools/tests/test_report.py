@@ -88,7 +88,8 @@ class Reports(unittest.TestCase):
                     if what == 'silent':
                         silent.append((number + 1 + to, number, to))
                     elif what != 'lost':
-                        kind = {'received': 'recv %d %d 5', 'overflowed': 'lost %d %d', 'collided': 'collide %d %d'}[what]
+                        kind = {'received': 'recv %d %d 5', 'overflowed': 'lost %d %d',
+                                'collided': 'collide %d %d'}[what]
                         lines[to].append('%d %s' % (number, kind % (sender, number)))
                 rows.append('%d %d %d 5 %s' % (number, sender, number, ' '.join(copies)))
             for place, (_, number, to) in enumerate(sorted(silent)):
@@ -106,7 +107,8 @@ class Reports(unittest.TestCase):
             self.assertEqual((found[0], 'expected ' + expected in found[1]), (int(where), True), found)
 
     def test_a_text_that_is_cut_off_or_goes_on_has_its_fault(self) -> None:
-        for text, row in ('', 1), ('mote 0 a\n', 2), (SMALL[:SMALL.index('left')], 20), (SMALL.replace('\n', '\r\n'), 1):
+        for text, row in (('', 1), ('mote 0 a\n', 2), (SMALL[:SMALL.index('left')], 20),
+                          (SMALL.replace('\n', '\r\n'), 1)):
             self.assertEqual(self.fault(text)[0], row)
         for cut in range(SMALL.index('\n') + 1, len(SMALL)):
             self.assertIn('the report is cut off at line ', self.fault(SMALL[:cut])[1])
@@ -183,7 +185,8 @@ class Runs(Room):
                     scenario = read_run(self.put(name, begin + EXAMPLE)).scenario
                     self.assertEqual(scenario and scenario.end, 20)
         for text in '[medium]\n', '"end" = 5\n', 'end=5\n':
-            with self.assertRaisesRegex(ScenarioFault, r'net.txt: scenario fault 2: .* the key .* tools/explain .*net.txt says more'):
+            with self.assertRaisesRegex(ScenarioFault,
+                                        r'net.txt: scenario fault 2: .* the key .* tools/explain .*net.txt says more'):
                 read_run(self.put('net.txt', text))
         for text in 'mote 1 a\n', '0 start etimer\n':
             with self.assertRaisesRegex(ReportFault, 'net.txt: line 1: expected'):

@@ -141,7 +141,8 @@ class Runs(Programs):
 
 
 # Motes that have a turn in each moment, for many seconds.
-ENDLESS = scenario_of('process a; autostart a; code a { etimer t; body { while 1 { set t 1; yield_until fired(t); } } }',
+ENDLESS = scenario_of('process a; autostart a; '
+                      'code a { etimer t; body { while 1 { set t 1; yield_until fired(t); } } }',
                       *[(100 * it, 0) for it in range(50)], end=1_000_000).encode()
 LONG = ENDLESS.replace(b'end = 1000000', b'end = 2000')
 
@@ -162,7 +163,8 @@ class Modules(unittest.TestCase):
         host, checker = self.host(), Runner(script_of('motecheck'))
         claims = b'mote 0: at least 2 lines "print process a"'
         runs: list[tuple[Runner, bytes, tuple[str, ...], dict[str, bytes]]] = [
-                (self.runner, SMALL, (), {}), (self.runner, b'end = ', (), {}), (self.runner, SMALL, ('--workers',), {}),
+                (self.runner, SMALL, (), {}), (self.runner, b'end = ', (), {}),
+                (self.runner, SMALL, ('--workers',), {}),
                 (checker, SMALL, ('/dev/stdin', 'claims'), {'claims': claims}),
                 (checker, SMALL, ('--links', '/dev/stdin', 'claims'), {'claims': claims}),
                 (checker, SMALL, ('/dev/stdin', 'none'), {}), (checker, SMALL, ('--runs', '2', '/dev/stdin', 'a'), {})]
@@ -378,8 +380,8 @@ class Batches(Programs):
         source = ('import multiprocessing, signal, sys; sys.path.insert(0, %r)\n' 'from motesim.runner import pool\n'
                   'both = multiprocessing.Barrier(2)\n' 'try:\n'
                   '    with pool(lambda it: it, lambda it: both.wait() if it < 2 else signal.pause(), 2) as workers:\n'
-                  '        for done in workers.results(range(9)):\n            print("one", flush=True)\n' 'except KeyboardInterrupt:\n'
-                  '    print("stopped")\n' % str(TOOLS))
+                  '        for done in workers.results(range(9)):\n            print("one", flush=True)\n' 'except '
+                  'KeyboardInterrupt:\n    print("stopped")\n' % str(TOOLS))
         with subprocess.Popen([sys.executable, '-B', '-c', source], stdout=subprocess.PIPE, stderr=subprocess.PIPE,
                               start_new_session=True, text=True) as ran:
             assert ran.stdout

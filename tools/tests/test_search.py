@@ -1,5 +1,6 @@
-"""Searches for faults: which sets are found, what they cut off, and the fate of limits, interrupts and hostile programs.
-What the command says is in sessions/search.toml, and test_survey compares the sets with those of a brute force."""
+"""Searches for faults: which sets are found, what they cut off, and the fate of limits, interrupts and hostile
+programs. What the command says is in sessions/search.toml, and test_survey compares the sets with those of a brute
+force."""
 import contextlib
 import itertools
 import json
@@ -75,9 +76,10 @@ def test_an_expectation_is_broken_by_the_smallest_sets_of_all_its_claims() -> No
 def test_the_lost_join_is_found_in_the_first_second() -> None:
     """Mote 1 sends JOIN once, and never repeats it."""
     need_built()
-    join = DIAMOND.replace(TABLE.texts['program'], 'process p;\nautostart p;\nreceiver p;\ncode p { etimer t; body { if '
-                           '(self == 1) { set t 9; yield_until fired(t); send 5; } while 1 { yield_until is(packet); if (self '
-                           '== 0) { print data; } } } }\n')
+    join = DIAMOND.replace(TABLE.texts['program'],
+                           'process p;\nautostart p;\nreceiver p;\ncode p { etimer t; body { if '
+                           '(self == 1) { set t 9; yield_until fired(t); send 5; } while 1 { yield_until is(packet); '
+                           'if (self == 0) { print data; } } } }\n')
     result = search_of(Asked(Scenario.parse(join), ['mote 0 prints p 5'], {'lost': ''}))
     assert [it.faults for it in result.found] == [('packet 0 of mote 1 is lost on the way to mote 0',)]
     assert result.found[0].measured and result.found[0].measured.moments == [9] and result.seconds < SECONDS
@@ -124,9 +126,9 @@ def test_a_cut_has_each_way_that_no_path_replaces() -> None:
 def test_a_run_that_reaches_a_limit_has_no_file() -> None:
     """A mote that misses the message prints 3,000 lines at each of a thousand moments."""
     need_built()
-    loud = ('loud = "process flood; autostart flood; receiver flood; code flood { var n = 0; etimer t; body { set t 30; yield; '
-            'if is(packet) { print data; } else { while 1 { n = 0; while (n < 3000) { print 1; n = (n + 1); } set t 1; '
-            'yield_until fired(t); } } } }"\n')
+    loud = ('loud = "process flood; autostart flood; receiver flood; code flood { var n = 0; etimer t; body { set t '
+            '30; yield; if is(packet) { print data; } else { while 1 { n = 0; while (n < 3000) { print 1; n = (n + '
+            '1); } set t 1; yield_until fired(t); } } } }"\n')
     head, *motes = DIAMOND.replace('end = 100', 'end = 1000').split('[[mote]]')
     motes[3] = motes[3].replace('"p"', '"loud"')
     with folder_with('[[mote]]'.join([head + loud, *motes])) as folder:
@@ -143,10 +145,12 @@ def test_an_interrupt_leaves_what_was_covered_before() -> None:
             HOLDS, program_path(CHECKER)))
         program.chmod(0o755)
         with mock.patch.dict(os.environ, MOTECHECK=str(program)):
-            with subprocess.Popen([sys.executable, '-B', str(TOOLS / 'search'), 'diamond.toml', '--links', '--at-most', '2'],
-                                  cwd=folder, stdout=subprocess.PIPE, stderr=subprocess.PIPE, text=True) as begun:
+            words = 'diamond.toml', '--links', '--at-most', '2'
+            with subprocess.Popen([sys.executable, '-B', str(TOOLS / 'search'), *words], cwd=folder,
+                                   stdout=subprocess.PIPE, stderr=subprocess.PIPE, text=True) as begun:
                 assert until(lambda: (folder / 'held').exists() or begun.poll() is not None)
                 begun.send_signal(signal.SIGINT)
                 said, seen = begun.communicate(timeout=SECONDS)
         assert begun.returncode == 130, seen
-        assert 'covered: all sets of at most 1 of 8 faults; runs: 9' in said and 'NOT ALL WAS TRIED: it was stopped' in said
+        assert 'covered: all sets of at most 1 of 8 faults; runs: 9' in said
+        assert 'NOT ALL WAS TRIED: it was stopped' in said

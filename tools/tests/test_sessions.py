@@ -1,4 +1,5 @@
-"""The sessions with the tools that are tables in sessions/, each of them a test; sessions.py says how a table is read."""
+"""The sessions with the tools that are tables in sessions/, each of them a test; sessions.py says how a table is
+read."""
 from pathlib import Path
 from typing import Any
 

@@ -73,8 +73,8 @@ def test_a_process_goes_with_all_that_names_it() -> None:
 def test_motes_that_stay_keep_the_numbers_that_programs_see(removed: list[int], wanted: list[str]) -> None:
     need_built()
     less = net_of(Scenario.parse(diamond_of(
-        'process p;\nautostart p;\nreceiver p;\ncode p { etimer t; body { set t (1 + (self * 5)); while 1 { yield; if fired(t) '
-        '{ send (64 * self); } if is(packet) { print (from + data); } } } }\n')))
+        'process p;\nautostart p;\nreceiver p;\ncode p { etimer t; body { set t (1 + (self * 5)); while 1 { yield; if '
+        'fired(t) { send (64 * self); } if is(packet) { print (from + data); } } } }\n')))
     for before, mote in enumerate(removed):
         less = without_motes(less, frozenset((mote - before,)))
     report = Report.parse(answer(less.text.encode()).report)
@@ -94,7 +94,8 @@ def test_places_of_motes() -> None:
     ('every mote but 3 prints flood 1 at 40 plus 3 for each hop from mote 9', {1},
      'every mote but 2 prints flood 1 at 40 plus 3 for each hop from mote 8'),
     ('motes 3 to 7 send', {3, 4, 9}, 'motes 3 to 5 send'), ('motes 3 to 4 send', {3, 4}, None),
-    ('motes 1, 3 and 5 print flood', {3}, None), ('mote 2 receives 7 from mote 5', {3}, 'mote 2 receives 7 from mote 4')])
+    ('motes 1, 3 and 5 print flood', {3}, None),
+    ('mote 2 receives 7 from mote 5', {3}, 'mote 2 receives 7 from mote 4')])
 def test_numbers_follow(sentence: str, removed: set[int], wanted: str | None) -> None:
     assert follow(sentence, NAMES, frozenset(removed)) == wanted
 
@@ -108,14 +109,16 @@ def program() -> Runner:
 
 
 def way(text: str, sentence: str, *faults: str) -> Any:
-    """Whether a scenario breaks a sentence, by the judge of the tests: whether no line shows it, and the report's length."""
+    """Whether a scenario breaks a sentence, by the judge of the tests: whether no line shows it, and the report's
+    length."""
     found = Runner(faults=faults).answer(text.encode())
     if found.status:
         return None
     scenario = Scenario.parse(text)
     try:
         with deciding_by(found.report.decode()):
-            broken, = breaks([read_sentence(sentence, names_of(scenario))], Finder(Report.parse(found.report), scenario))
+            broken, = breaks([read_sentence(sentence, names_of(scenario))],
+                             Finder(Report.parse(found.report), scenario))
     except Fault:
         return None
     return broken and (broken.row is None, len(found.report))
@@ -148,7 +151,8 @@ def test_faults_stay_what_breaks_it(program: Runner) -> None:
     shrinking = Shrinking(program, Case(net_of(more), REACHED, (*SILENT, *read_faults(['mote 4 is silent']))))
     shrinking.run()
     case = shrinking.case
-    assert way(case.net.text, case.sentence) is None and way(case.net.text, case.sentence, 'mote 0 is silent') is not None
+    assert way(case.net.text, case.sentence) is None
+    assert way(case.net.text, case.sentence, 'mote 0 is silent') is not None
     assert (len(case.net.motes), [*case.faults]) == (2, SILENT)
 
 
@@ -194,10 +198,12 @@ def test_an_interrupt_ends_it_at_once_and_writes_the_smallest_scenario_so_far(fo
                                                                               is_written: bool) -> None:
     (folder / 'slow').write_text(SLOW % program_path())
     (folder / 'slow').chmod(0o755)
-    source = 'import sys\nsys.path.insert(0, %r)\nimport motesim.progress\nmotesim.progress.ELSEWHERE = %d\n%sfrom motesim.commands.shrink ' \
-             'import main\nmain()\n' % (str(TOOLS), SECONDS, before)
-    with subprocess.Popen([sys.executable, '-B', '-c', source, 'diamond.toml', REACHED, '--fault', 'mote 0 is silent', '--seconds', '600'],
-                          cwd=folder, stdin=subprocess.PIPE, stdout=subprocess.PIPE, stderr=subprocess.PIPE, text=True) as running:
+    source = ('import sys\nsys.path.insert(0, %r)\nimport motesim.progress\nmotesim.progress.ELSEWHERE = %d\n'
+              '%sfrom motesim.commands.shrink import main\nmain()\n') % (str(TOOLS), SECONDS, before)
+    with subprocess.Popen([sys.executable, '-B', '-c', source, 'diamond.toml', REACHED, '--fault', 'mote 0 is silent',
+                           '--seconds', '600'],
+                          cwd=folder, stdin=subprocess.PIPE, stdout=subprocess.PIPE, stderr=subprocess.PIPE,
+                          text=True) as running:
         assert running.stdout
         while running.stdout.readline() not in ('', 'now\n'):
             pass
@@ -206,4 +212,5 @@ def test_an_interrupt_ends_it_at_once_and_writes_the_smallest_scenario_so_far(fo
     # (without a compiled motecheck a line says that node runs its module)
     seen = ''.join(it for it in seen.splitlines(True) if not it.endswith(IN_NODE + '\n'))
     assert (running.returncode, (folder / 'diamond.small.toml').exists()) == (130, is_written), seen
-    assert ('1 steps' in said and 'STOPPED' in said and not seen) if is_written else seen == 'shrink: %s\n' % STOPPED, seen
+    assert ('1 steps' in said and 'STOPPED' in said
+            and not seen) if is_written else seen == 'shrink: %s\n' % STOPPED, seen

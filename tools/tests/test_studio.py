@@ -288,7 +288,8 @@ class Answering(Room):
             self.assertFalse(busiest.call_args.kwargs['goes_on']())
 
     def test_a_fault_has_its_place_the_words_of_explain_and_the_corrected_text(self) -> None:
-        fault = self.answer('explain', NET.replace('print 1', 'print nothing'), line='motesim: program talk fault 3 line 8')
+        fault = self.answer('explain', NET.replace('print 1', 'print nothing'),
+                            line='motesim: program talk fault 3 line 8')
         self.assertEqual(fault['place'], [17, 10, 17])
         self.assertTrue(any(line.startswith('UnknownName: ') for line in fault['words']))
         self.assertTrue(any(line.startswith('Allowed here: ') for line in fault['words']))
@@ -302,10 +303,12 @@ class Answering(Room):
             ('mote 1 prints talker 1', ['mote 1: at least 1 line "print process talker value 1"'])])
         self.assertEqual((said['about'], said['file']['name']), ('', 'net.expect.toml'))
         said = self.answer('expectations', NET.replace('print 1', 'print 9'))
-        self.assertEqual(([it['words'] for it in said['items']], said['about']), (['mote 1 prints talker 9'], '(another value)'))
+        self.assertEqual(([it['words'] for it in said['items']], said['about']),
+                         (['mote 1 prints talker 9'], '(another value)'))
         self.put('net.expect.toml', 'expect = ["the medium writes \'4 0\'"]')
         item, = self.answer('expectations', NET)['items']
-        self.assertEqual((item['claims'], item['remark']), ([], 'tools/expect decides this: no claim: claims have no whole lines of the medium'))
+        self.assertEqual((item['claims'], item['remark']),
+                         ([], 'tools/expect decides this: no claim: claims have no whole lines of the medium'))
         self.put('net.expect.toml', 'no TOML')
         self.assertIn('TOML', self.answer('expectations', NET)['items'][0]['remark'])
 

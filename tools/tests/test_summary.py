@@ -26,7 +26,8 @@ def test_the_tables_have_the_columns_that_the_help_and_the_page_describe() -> No
     report, scenario = Report.parse(REPORT), Scenario.parse(SCENARIO)
     motes, net, links = summary(Run('small', report, scenario))
     for rows, columns in (([*motes, net], ['mote', 'program', *MOTES]), (links, [*LINKS]),
-                          (flow_rows(report, None, 'print hearer'), [*FLOWS]), ([*Series(report, 5).rows()], [*INTERVALS])):
+                          (flow_rows(report, None, 'print hearer'), [*FLOWS]),
+                          ([*Series(report, 5).rows()], [*INTERVALS])):
         assert rows and all([*row] == columns for row in rows)
 
 
@@ -52,8 +53,10 @@ def test_the_net_is_searched_once_for_each_origin() -> None:
 
 
 @pytest.mark.parametrize('words, seen', [
-    ('print haerer', 'did you mean hearer'), ('print xyz', 'it has: a, b, hearer'), ('print a -> print no', 'it has: a, b, hearer'),
-    *((it, '') for it in ('print hearer', 'print b', 'print a -> print hearer', 'print radio', 'send -> recv', 'print talker'))])
+    ('print haerer', 'did you mean hearer'), ('print xyz', 'it has: a, b, hearer'),
+    ('print a -> print no', 'it has: a, b, hearer'),
+    *((it, '') for it in ('print hearer', 'print b', 'print a -> print hearer', 'print radio', 'send -> recv',
+                          'print talker'))])
 def test_a_flow_of_a_process_that_the_scenario_lacks_is_refused(words: str, seen: str) -> None:
     scenario, report = Scenario.parse(WITH_PROCESSES), Report.parse(REPORT)
     if not seen:

@@ -1,6 +1,6 @@
-"""Surveys of small nets by motecheck. A brute force finds the same sets: it has motecheck report each run with at most two
-faults, whatever copies they name, and judges the reports by itself. And surveys of protocols that repeat packets, whose
-faults no fixed list has."""
+"""Surveys of small nets by motecheck. A brute force finds the same sets: it has motecheck report each run with at most
+two faults, whatever copies they name, and judges the reports by itself. And surveys of protocols that repeat packets,
+whose faults no fixed list has."""
 import subprocess
 import unittest
 from collections.abc import Callable, Sequence
@@ -142,7 +142,8 @@ class Options(unittest.TestCase):
             (room / name).touch()
         for options in ('--at-most', '2'), ('--runs', '5'), (*workers(2), '--at-most', '1', '--runs', '5'):
             with self.subTest(options=options):
-                done = subprocess.run([CHECK, *options, 'net.toml', 'net.claims'], cwd=room, capture_output=True, text=True)
+                done = subprocess.run([CHECK, *options, 'net.toml', 'net.claims'], cwd=room, capture_output=True,
+                                      text=True)
                 self.assertEqual((done.returncode, done.stdout), (2, ''))
                 self.assertTrue(done.stderr.startswith(NEED), done.stderr)
 
@@ -160,8 +161,8 @@ class Options(unittest.TestCase):
 class Repeated(unittest.TestCase):
     """Mote 0 sends 1 to 5, each up to three times, with a timeout below the round trip, and takes any packet for the
     acknowledgement. It prints 99 if all five were acknowledged."""
-    CLAIM = 'at least 1 of these: mote 0: exactly 0 lines "print value 99"; mote 1: the lines "print" have in order of ' \
-        'time exactly the values 1, 2, 3, 4, 5'
+    CLAIM = ('at least 1 of these: mote 0: exactly 0 lines "print value 99"; mote 1: the lines "print" have in order '
+             'of time exactly the values 1, 2, 3, 4, 5')
 
     def broken_by(self, program: str, *options: str) -> list[str]:
         text = scenario_of(program.replace('n < 2', 'n < 5').replace('done == 2', 'done == 5'), *PAIR, end=60)
@@ -179,9 +180,11 @@ class Repeated(unittest.TestCase):
     def test_a_broken_filter_of_duplicates_needs_a_pair_that_only_some_run_has(self) -> None:
         # (it forgets the number after another duplicate: the second acknowledgement is that of the repeated packet)
         program = REPEAT.replace('set t 3', 'set t 9').replace(
-            'if (data > last) { last = data; print data; }', 'if (data == last) { last = 0; } else { last = data; print data; }')
+            'if (data > last) { last = data; print data; }',
+            'if (data == last) { last = 0; } else { last = data; print data; }')
         pairs = [it for it in self.broken_by(program, '--lost', '--at-most=2')]
         self.assertTrue(pairs and all('; ' in it for it in pairs), pairs)
-        first = Runs(scenario_of(program.replace('n < 2', 'n < 5').replace('done == 2', 'done == 5'), *PAIR, end=60), [])
+        first = Runs(scenario_of(program.replace('n < 2', 'n < 5').replace('done == 2', 'done == 5'), *PAIR, end=60),
+                     [])
         sent = {it for it in first.run(frozenset())[1]}
         self.assertTrue(any(not set(it.split('; ')) <= sent for it in pairs), pairs)

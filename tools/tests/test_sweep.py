@@ -60,7 +60,8 @@ def test_what_is_measured(words: str, name: str, value: str) -> None:
 @pytest.mark.parametrize('words, code', [
     ('delivery: mote 1 prints a -> every mote prints a', 'own-message'),
     ('delivery: motes 1 and 2 print a 8 -> motes 1 and 2 print a', 'own-message'),
-    *(('delivery: mote 1 prints a -> %s prints a' % it, '') for it in ('every mote but 1', 'some mote', 'mote 1', 'mote 2')),
+    *(('delivery: mote 1 prints a -> %s prints a' % it, '')
+      for it in ('every mote but 1', 'some mote', 'mote 1', 'mote 2')),
     ('delivery: mote 1 prints a 9 -> every mote prints a', ''),
     ('delivery: every mote prints a -> mote 2 prints a', 'same-value'),
     ('delivery: every mote sends -> mote 2 prints a', '')])
@@ -98,7 +99,8 @@ def test_a_function_of_two_arguments_gets_the_parameters_of_the_run() -> None:
 
 
 @pytest.mark.parametrize('text, values', [
-    ('10,20, 40', [10, 20, 40]), ('1..3,7', [1, 2, 3, 7]), ('-10..10..10', [-10, 0, 10]), ('true,a b,007', [True, 'a b', '007']),
+    ('10,20, 40', [10, 20, 40]), ('1..3,7', [1, 2, 3, 7]), ('-10..10..10', [-10, 0, 10]),
+    ('true,a b,007', [True, 'a b', '007']),
     ('3..1', None), ('1,1', None), ('1,,2', None), ('1..3..0', None)])
 def test_values(text: str, values: list[object] | None) -> None:
     if values is None:

@@ -16,7 +16,8 @@ class ProgressTest(unittest.TestCase):
         """What is written if a line may be due once."""
         seen = io.StringIO()
         setattr(seen, 'isatty', lambda: is_terminal)
-        with mock.patch.multiple('motesim.progress', ON_TERMINAL=0, ELSEWHERE=elsewhere), mock.patch('sys.stderr', seen):
+        times = mock.patch.multiple('motesim.progress', ON_TERMINAL=0, ELSEWHERE=elsewhere)
+        with times, mock.patch('sys.stderr', seen):
             progress = Progress()
             if progress.is_due():
                 progress.show('1 of 2')

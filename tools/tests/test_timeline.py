@@ -1,5 +1,5 @@
-"""The pages of tools/timeline: their data, and in a headless browser, where there is one, what they show. What the command
-says is in sessions/timeline.toml."""
+"""The pages of tools/timeline: their data, and in a headless browser, where there is one, what they show. What the
+command says is in sessions/timeline.toml."""
 import itertools
 import json
 import re
@@ -165,8 +165,8 @@ class Pages(InBrowser):
             self.open_report(SILENT.replace('msg', event))
             self.click(9)
             self.shows('details', 'Event 2 of mote 0: %s 1' % event, 'still waiting when the run ends')
-            self.assertEqual(self.value('Array.from(run.silent.keys()).filter(i => run.silent[i]).map(i => run.text(i))'),
-                             ['4 take 1 a'])
+            silent = 'Array.from(run.silent.keys()).filter(i => run.silent[i]).map(i => run.text(i))'
+            self.assertEqual(self.value(silent), ['4 take 1 a'])
 
     def test_a_run_is_played_and_a_search_finds_lines(self) -> None:
         self.open(small_network())

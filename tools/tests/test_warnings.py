@@ -82,7 +82,8 @@ class Nets(unittest.TestCase):
     def test_motes_and_links(self) -> None:
         self.check(net([(0, 'p'), (5, 'q')], p=SENDS, q=HEARS))
         self.check(net([(0, 'p'), (5, 'q')], p=SENDS, q=HEARS, r=SENDS), Warned('unused-program'))
-        self.check(net([(0, 'p'), (50, 'q'), (99, 'q')], p=SENDS, q=HEARS), Warned('out-of-range', mote=0, others=(1, 2)))
+        self.check(net([(0, 'p'), (50, 'q'), (99, 'q')], p=SENDS, q=HEARS),
+                   Warned('out-of-range', mote=0, others=(1, 2)))
         self.check(net([(0, 'p'), (5, 'q'), (14, 'q')], '{ from = 0, to = 2, every = 2 }', p=SENDS, q=HEARS),
                    Warned('loss-without-link', loss=0))
         self.check(net([(0, 'p'), (5, 'q')], '{ from = 0, to = 1, every = 1 }', p=SENDS, q=HEARS),

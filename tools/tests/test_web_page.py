@@ -147,7 +147,8 @@ class Page(InPage):
 
     def test_the_text_is_shown_from_its_program_on_and_an_error_is_marked_at_its_place(self) -> None:
         self.open()
-        self.assertEqual(self.value('text.split("\\n")[Math.round(by("text").scrollTop / web.pad.high)]'), "flood = '''")
+        self.assertEqual(self.value('text.split("\\n")[Math.round(by("text").scrollTop / web.pad.high)]'),
+                         "flood = '''")
         self.value('(it => { it.focus(); const at = it.value.indexOf("print newest"); it.setSelectionRange(at, at); '
                    '})(by("text"))')
         self.browser.type('prin 2; ')
@@ -336,7 +337,8 @@ class Page(InPage):
         self.value('document.querySelector("#gallery-cards button").click()')
         self.wait('run.end !== 50 && !location.hash')
         self.browser.run('void (location.hash = %s)' % json.dumps(link))
-        self.browser.wait('window.motesim && motesim.ready && motesim.web.intro === "This is your text of the last time."')
+        self.browser.wait('window.motesim && motesim.ready '
+                          '&& motesim.web.intro === "This is your text of the last time."')
         self.assertEqual(self.value('run.end'), 50)
 
     def test_two_fingers_zoom(self) -> None:

@@ -1,5 +1,5 @@
-"""The causes of lines that tools/why reports. The chains are worked out by hand from the scenarios of sessions/why.toml,
-which also has what the command says."""
+"""The causes of lines that tools/why reports. The chains are worked out by hand from the scenarios of
+sessions/why.toml, which also has what the command says."""
 import re
 from functools import cache
 
@@ -80,7 +80,8 @@ def test_the_if_that_led_to_a_statement(example: str, question: str, led: str) -
 
 def test_an_event_for_a_process_that_is_not_on_the_process_list() -> None:
     left = source(report=REPORT.replace('7 take 0 h', '7 drop 0 h'))
-    assert of_fate(left, after_post(left, At(1, 5))) == 'its event was dropped at 7, because h was not on the process list'
+    assert of_fate(left,
+                   after_post(left, At(1, 5))) == 'its event was dropped at 7, because h was not on the process list'
     assert because_of(run_of('broadcast'), At(0, 10)) == 'event 0 was dropped: b was not on the process list'
 
 
@@ -135,7 +136,8 @@ def test_reasons_and_json_have_both_lines() -> None:
     assert because(found, hops[0]) == 'a, line 8 (a.toml:16): `post b msg 5`'
     assert (first['program_line'], first['file'], first['file_line']) == (8, 'a.toml', 16)
     other = ScenarioFile('b.mote', 'process x;\ncode x { body { print 1; } }\n')
-    assert because_of(Source('test', Report.parse(REPORT), Scenario.parse(SCENARIO), other), At(0, 7)) == 'a, line 8 of program talker: `post b msg 5`'
+    assert because_of(Source('test', Report.parse(REPORT), Scenario.parse(SCENARIO), other),
+                      At(0, 7)) == 'a, line 8 of program talker: `post b msg 5`'
 
 
 # Which line a question is about.
@@ -156,7 +158,8 @@ def test_the_line_of_a_question(question: str, kind: str, found: str) -> None:
     ('mote 3 sends after mote 0 sends', '3: 49 send 0 1', True, ''),
     ('every mote but 0 prints flood within 0 of receiving', '24: 64 print flood 1', True, 'mote 24 is the last'),
     ('some mote prints flood 2', '5: 83 print flood 2', True, ''),
-    ('mote 0 sends after mote 3 sends', '0: 40 send 0 1', False, 'every line "send" is after some line "send" of mote 3'),
+    ('mote 0 sends after mote 3 sends', '0: 40 send 0 1', False,
+     'every line "send" is after some line "send" of mote 3'),
     ('mote 3 sends at least once as often as mote 2', '3: 49 send 0 1', True, ''),
     ('mote 3 sends more than 2 times as often as mote 2', '3: 129 send 2 3', False, 'but there are 3 and 3')])
 def test_sentences_on_two_events(question: str, line: str, holds: bool, remark: str) -> None:
@@ -167,7 +170,8 @@ def test_sentences_on_two_events(question: str, line: str, holds: bool, remark: 
 
 
 @pytest.mark.parametrize('example, question, mote', [
-    ('flooding', 'mote 3 prints flood 9 after mote 0 sends', 3), ('flooding', 'some mote prints flood 9 after mote 0 sends', 0),
+    ('flooding', 'mote 3 prints flood 9 after mote 0 sends', 3),
+    ('flooding', 'some mote prints flood 9 after mote 0 sends', 0),
     ('lesson/start', 'every mote but 0 prints hops within 0 of receiving', 3),
     ('lesson/start', 'motes 1, 2 and 5 print hops after receiving', 5),
     ('lesson/start', 'motes 1 to 3 print hops 1 at least once within 0 of receiving', 3)])
@@ -197,13 +201,17 @@ def test_near_misses(run: str, question: str, kinds: str, row: str) -> None:
 
 def test_the_words_of_near_misses() -> None:
     never = source(SCENARIO.replace('    yield_until is(packet);\n    print data;',
-                                    '    while 1 {\n      yield;\n      if (data > 8) {\n        print data;\n      }\n    }'),
+                                    '    while 1 {\n      yield;\n      if (data > 8) {\n        print data;\n'
+                                    '      }\n    }'),
                    REPORT.replace('7 print h 8\n7 leave h\n', ''))
     for run, question, words in (
-            (source(), 'mote 1 prints h 8 by 6', '`print h 8`, at 7: 1 moment too late, because the expectation allows up to 6'),
-            (never, 'mote 1 prints h 9', 'line 9: `print data` was never reached; line 8: `if (data > 8)` was tested once, and '
+            (source(), 'mote 1 prints h 8 by 6',
+             '`print h 8`, at 7: 1 moment too late, because the expectation allows up to 6'),
+            (never, 'mote 1 prints h 9',
+             'line 9: `print data` was never reached; line 8: `if (data > 8)` was tested once, and '
              'was never true, the last time, at 7'),
-            (run_of('called'), 'mote 0 prints worker 1', 'worker has waited at line 28: `yield_until is(go)` from 0; its '
+            (run_of('called'), 'mote 0 prints worker 1',
+             'worker has waited at line 28: `yield_until is(go)` from 0; its '
              'condition was tested once in this time, and was never true')):
         assert words in [of_miss(run, it) for it in missing_of(run, question)[1]]
 
@@ -245,7 +253,8 @@ def test_lines_at_another_time_are_looked_up_in_linear_work() -> None:
 
 
 # The causes of lines that have a line of their own as their cause, in the words of the report.
-CAUSES = (r'recv (?P<mote>\d+) (\d+) (\d+)', r'send \2 \3'), (r'(?:lost|collide) (?P<mote>\d+) (\d+)', r'send \2 \d+'), (
+CAUSES = (r'recv (?P<mote>\d+) (\d+) (\d+)', r'send \2 \3'), (
+    r'(?:lost|collide) (?P<mote>\d+) (\d+)', r'send \2 \d+'), (
     r'(?:take|drop) (\d+) \w+', r'post \1 .*'), (r'deaf (\d+ \d+)', r'recv \1 .*'), (
     'start (?:etimer|ctimer|radio)', r'mote \d+ .*'), ('.*', '(?:start|take|recv|mote) .*')
 
@@ -254,7 +263,8 @@ def has_cause(line: str, cause: str) -> bool:
     """Returns whether a line may have a cause, by the table of DEBUGGING."""
     form, wanted = next(it for it in CAUSES if re.fullmatch(it[0], line))
     found = re.fullmatch(form, line)
-    return found is not None and re.fullmatch(found.expand(wanted.replace(r'\d', '[0-9]').replace(r'\w', '[a-z]')), cause) is not None
+    return found is not None and re.fullmatch(found.expand(wanted.replace(r'\d', '[0-9]').replace(r'\w', '[a-z]')),
+                                              cause) is not None
 
 
 def test_each_line_has_one_cause_that_is_earlier() -> None:
@@ -283,11 +293,12 @@ def test_each_line_has_one_cause_that_is_earlier() -> None:
 
 # Motes that boot again. Process p prints 1, and sends at 5 moments after its boot; the mote boots again at 3.
 
-AGAIN = scenario_of('process p;\nautostart p;\ncode p {\n  var n = 0;\n  etimer t;\n  body {\n    n = (n + 1);\n    print n;\n    send n;\n'
-                    '    set t 5;\n    yield_until fired(t);\n    send 7;\n    while 1 { yield; }\n  }\n}\n')
+AGAIN = scenario_of('process p;\nautostart p;\ncode p {\n  var n = 0;\n  etimer t;\n  body {\n    n = (n + 1);\n    '
+                    'print n;\n    send n;\n    set t 5;\n    yield_until fired(t);\n    send 7;\n'
+                    '    while 1 { yield; }\n  }\n}\n')
 LIFE = '{0} start etimer\n{0} start ctimer\n{0} start radio\n{0} start p\n{0} print p 1\n{0} send {1} 1\n'
-TWICE = 'mote 0 p\n%s3 boots\n%s8 post 0 p timer 0\n8 take 0 p\n8 send 2 7\nmedium\n0 0 0 1\n3 0 1 1\n8 0 2 7\nleft 0\n' % (
-    LIFE.format(0, 0), LIFE.format(3, 1))
+TWICE = ('mote 0 p\n%s3 boots\n%s8 post 0 p timer 0\n8 take 0 p\n8 send 2 7\n'
+         'medium\n0 0 0 1\n3 0 1 1\n8 0 2 7\nleft 0\n') % (LIFE.format(0, 0), LIFE.format(3, 1))
 
 
 @pytest.mark.parametrize('fault', ['mote 0 restarts at 3', 'mote 0 is off from 1 to 3'])
@@ -296,7 +307,8 @@ def test_a_mote_that_boots_again(fault: str) -> None:
     scenario.faults = (fault,)
     run = Source('test', Report.parse(TWICE), scenario)
     hops = chain(run, At(0, 15))
-    assert [words_of(run, it.where) for it in hops] == ['send 2 7', 'take 0 p', 'post 0 p timer 0', 'start p', 'boots', 'mote 0 p']
+    assert [words_of(run, it.where) for it in hops] == [
+        'send 2 7', 'take 0 p', 'post 0 p timer 0', 'start p', 'boots', 'mote 0 p']
     assert [because(run, it) for it in hops[3:]] == ['in the list of autostart', fault, 'the start']
     assert [(it.at, it.value) for it in replayed(run, *read_watch(run, 'mote 0 n'))] == [(0, 0), (0, 1), (3, 0), (3, 1)]
     assert after_moment(run, 0, 4).replay.timers[0].due == 8 and after_moment(run, 0, 2).replay.timers[0].due == 5
@@ -304,6 +316,7 @@ def test_a_mote_that_boots_again(fault: str) -> None:
 
 
 def test_an_event_that_a_boot_forgets() -> None:
-    run = Source('test', Report.parse(REPORT.replace('7 take 0 h\n', '7 boots\n').split('7 print h 8')[0] + 'medium\n4 0 0 8 1@7\nleft 0\n'),
+    run = Source('test', Report.parse(REPORT.replace('7 take 0 h\n', '7 boots\n').split('7 print h 8')[0] +
+                                      'medium\n4 0 0 8 1@7\nleft 0\n'),
                  Scenario.parse(SCENARIO))
     assert of_fate(run, after_post(run, At(1, 5))) == 'mote 1 booted again at 7, before its event was taken'

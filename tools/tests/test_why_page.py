@@ -53,14 +53,16 @@ class Notes(unittest.TestCase):
 
     def test_what_came_near_a_line_that_is_missing(self) -> None:
         note = self.note('mote 1 prints h 9')
-        self.assertEqual(note.why, 'not for mote 1: at least 1 line "print process h value 9", but there are 0. The nearest:')
+        self.assertEqual(note.why,
+                         'not for mote 1: at least 1 line "print process h value 9", but there are 0. The nearest:')
         self.assertEqual(note.lines[0].text, 'mote 1: h had left at 7')
         self.assertEqual(note.mote, 1)
 
     def test_a_page_on_missing_values_of_several_motes_opens_on_the_whole_run(self) -> None:
         sentence = 'motes 1 and 2 together print just hops 1, 1, 1 in any order'
         self.assertEqual(self.note(sentence, 'lesson/start.toml'), Note(
-            sentence, 'not for the net: the lines "print process hops" of motes 1 to 2 together have in any order exactly the '
+            sentence,
+            'not for the net: the lines "print process hops" of motes 1 to 2 together have in any order exactly the '
             'values 1, 1, 1, but there are 2; missing: 1'))
         note = self.note('mote 1 prints just h 8, 9 in any order')
         self.assertEqual((note.lines[0].text, note.mote), ('mote 1: h had left at 7', 1))

@@ -27,7 +27,6 @@ class Answers(unittest.TestCase):
     def test_states(self) -> None:
         self.assertIn({'text': '  event 1 waits: msg 5 for b, posted at 4', 'is_changed': False},
                       self.ask('state', row=9)['rows'])
-        asked: dict[str, int]
-        for asked in ({'row': 1}, {'row': 99}, {}):
+        for asked in {'row': 1}, {'row': 99}, dict[str, int]():
             self.assertIn('said', self.ask('state', **asked))
 

@@ -33,7 +33,8 @@ class Endless(Room):
             with self.subTest(tool):
                 self.assertRegex(self.said(tool, 'print', '--memory', '60'), (
                     r'^%s: net\.toml: the run was ended: the run needs more than 60 megabytes of memory\. Up to moment '
-                    r'\d+, process loud of mote 0 prints [\d,]+ times: .* A larger --memory raises the limit\n$' % tool))
+                    r'\d+, process loud of mote 0 prints [\d,]+ times: .* '
+                    r'A larger --memory raises the limit\n$') % tool)
 
     def test_the_message_names_the_mote_that_sends(self) -> None:
         self.assertRegex(self.said('explain', 'send', '--seconds', '0.3'),
@@ -44,8 +45,10 @@ class Endless(Room):
                 (PROGRAM % 'print', 'process loud of mote 0 prints '), (PROGRAM % 'send', 'mote 0 sends '),
                 (POSTS, 'mote 0 posts '), (PAUSES, 'process idle of mote 0 pauses '),
                 # (a process may also post the event of a `pause` to itself)
-                (POSTS.replace('msg 1; yield;', 'continue 0; yield_until is(continue);'), 'process echo of mote 0 pauses '),
-                (STORM, 'the motes send '), (STORM.replace('while 1', 'if 1'), ''), (POSTS.replace('while 1', 'if 1'), '')):
+                (POSTS.replace('msg 1; yield;', 'continue 0; yield_until is(continue);'),
+                 'process echo of mote 0 pauses '),
+                (STORM, 'the motes send '), (STORM.replace('while 1', 'if 1'), ''),
+                (POSTS.replace('while 1', 'if 1'), '')):
             motes = [(x, 0) for x in range(10 if 'receiver' in text else 1)]
             data = scenario_of(text, *motes, end=60 if text == STORM else 1500).replace('per = 100', 'per = 40')
             with self.subTest(text):

@@ -71,7 +71,8 @@ def status_of(asked: argparse.Namespace) -> int:
     if not rows:
         raise Fault('%s has no runs: run tools/sweep again' % results)
     called = shlex.join(['tools/plot', *sys.argv[1:]])
-    given: dict[str, Any] = {it.name: value for it in OPTIONS if (value := getattr(asked, it.name)) != it.default and value != []}
+    given: dict[str, Any] = {it.name: value for it in OPTIONS
+                             if (value := getattr(asked, it.name)) != it.default and value != []}
     if asked.plan:
         if set(given) - {'where'}:
             raise Fault('with --plan, the plan\'s `plot` has all options but --param')

@@ -31,9 +31,11 @@ def rows_of_asked(source: Source, asked: Asked, is_short: bool = False) -> list[
     """A chain as text."""
     hops = chain(source, asked.where)
     first = hops[0]
-    rows = ['mote %d, line %d of the report: %d %s' % (first.where.mote, first.row, first.at, words_of(source, first.where))]
+    rows = ['mote %d, line %d of the report: %d %s' % (
+        first.where.mote, first.row, first.at, words_of(source, first.where))]
     rows += filter(None, [about(source, asked)])
-    rows += ['', *rows_of_chain(source, short(hops) if is_short else hops, source.scenario.fields), '', of_path(path_of(hops))]
+    rows += ['', *rows_of_chain(source, short(hops) if is_short else hops, source.scenario.fields), '',
+             of_path(path_of(hops))]
     return [*rows, *filter(None, [on_values(source, hops)])]
 
 

@@ -187,8 +187,8 @@ class Asker:
         return left[0].row if left else None
 
     def shown_by(self, it: Does, motes: tuple[int, ...]) -> Event | None:
-        """The line with which a mote, or several together, have done what the sentence says; of several periods, that in
-        the last one."""
+        """The line with which a mote, or several together, have done what the sentence says; of several periods, that
+        in the last one."""
         events = self.finder.done(it.deed.patterns, motes)
         for span in reversed(self.finder.spans(it.window, motes)):
             inside = [event for event in events if within(event.at, span)]
@@ -201,7 +201,8 @@ class Asker:
         """The rows of the copies or packets in the time of a sentence; of several periods, those in the last one that
         has some."""
         rows = self.finder.rows_of(it)
-        of_parts = ([row for row in rows if within(row.at, span)] for span in reversed(self.finder.spans(it.window, ())))
+        of_parts = ([row for row in rows if within(row.at, span)]
+                    for span in reversed(self.finder.spans(it.window, ())))
         return next(filter(None, of_parts), []) if it.window.every else rows
 
     def completing(self, it: Copies | Packets) -> int | None:

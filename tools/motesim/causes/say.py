@@ -28,8 +28,8 @@ WIDEST = 60
 MOST_MET = 3
 # The calls that have their own line; and the most calls without a line that a reason names.
 HAVE_LINES, MOST_CALLS = ('take', 'init', 'boot'), 8
-OUTCOME_WORDS = {'received': 'arrived', 'lost': 'was lost', 'overflowed': 'found the radio full', 'collided': 'collided',
-                 'halted': 'came to a halted mote', 'left': 'was left at the end'}
+OUTCOME_WORDS = {'received': 'arrived', 'lost': 'was lost', 'overflowed': 'found the radio full',
+                 'collided': 'collided', 'halted': 'came to a halted mote', 'left': 'was left at the end'}
 WAITS = {'left': 'has left', 'unstarted': 'is not started', 'called': 'is being called',
          'begins': 'begins at its next call'}
 FATES = {
@@ -241,7 +241,8 @@ def on_values(source: Source, hops: list[Hop]) -> str:
         return ''
     line = source.traces.line(found)
     return ('Mote %d had received the value %s before, in %s at %d. The chain follows events, not values: to follow '
-            'that packet, ask about line %d.' % (found.mote, line.value, of_packet(line), line.at, source.traces.row(found)))
+            'that packet, ask about line %d.' % (found.mote, line.value, of_packet(line), line.at,
+                                                 source.traces.row(found)))
 
 
 def rows_of_chain(source: Source, hops: list[Hop], fields: Sequence[Field] = ()) -> list[str]:

@@ -48,7 +48,8 @@ def why(source: Source, asked: Said) -> Said:
     asker = Asker(source)
     found = asker.about(str(asked.get('question', '')))
     if isinstance(found, Asked):
-        return {**chain_as_json(source, chain(source, found.where)), 'holds': found.holds, 'about': about(source, found)}
+        return {**chain_as_json(source, chain(source, found.where)), 'holds': found.holds,
+                'about': about(source, found)}
     return misses_as_json(source, found, misses(asker, found))
 
 

@@ -42,7 +42,8 @@ def main() -> int:
     options, values = [], []
     for verb in VERBS:
         actions = import_module('motesim.commands.' + verb).parser()._actions
-        options.append("    %s) options='%s' ;;" % (verb, ' '.join(name for it in actions for name in it.option_strings)))
+        names = ' '.join(name for it in actions for name in it.option_strings)
+        options.append("    %s) options='%s' ;;" % (verb, names))
         values += ["    '%s %s') values='%s' ;;" % (verb, name, ' '.join(map(str, it.choices)))
                    for it in actions if it.choices for name in it.option_strings]
     print(SCRIPT % (' '.join(VERBS), '\n'.join(options), '\n'.join(values)))

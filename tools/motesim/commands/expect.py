@@ -19,8 +19,8 @@ The proved program `motecheck` decides the claims that each expectation means fo
 runs nothing, and writes these claims: `motecheck SCENARIO CLAIMS` answers them.
 
 The tool ends with status 0 if all expectations hold, 1 if one is broken, and 2 if there is no result: if an expectation
-or a file can't be read, if the run reaches a limit, or if `motesim` or `motecheck` isn't built. To use another one, name
-its file in the environment variable MOTESIM or MOTECHECK.
+or a file can't be read, if the run reaches a limit, or if `motesim` or `motecheck` isn't built. To use another one,
+name its file in the environment variable MOTESIM or MOTECHECK.
 """
 from __future__ import annotations
 
@@ -60,7 +60,7 @@ def main() -> int:
     text = text_of(scenario) if is_own and not asked.claims else ''
     claims, faults, passed, failed = own_claims(text), faults_asked(asked), 0, 0
     if is_own and not expectations.exists() and not claims:
-        raise Fault('there is no file %s next to %s: name another one, tools/expect SCENARIO EXPECTATIONS, or use --expect' % (
+        raise Fault('there is no file %s next to %s: name another one behind the scenario, or use --expect' % (
             expectations, scenario))
     if asked.claims:
         print('\n'.join(claims_shown(scenario, expectations, asked.expect)))

@@ -11,9 +11,9 @@ RESULTS is a file that tools/sweep wrote. Each point of a picture, or row of a t
 --against and --by. The runs of a point may differ only in `seed` and in parameters whose names end in `_seed` or, with
 --over, only in the parameters that it names. If they differ in another parameter, the tool refuses to mix them.
 
---csv writes the table for pandas, R or a spreadsheet. Next to a picture the tool writes its table, NAME.table.csv; the first line has the command and the digests of the
-results and of motesim. Pictures need matplotlib (on Debian: apt-get install python3-matplotlib). docs/use/EXPERIMENTS.md
-explains all options with examples.
+--csv writes the table for pandas, R or a spreadsheet. Next to a picture the tool writes its table, NAME.table.csv; the
+first line has the command and the digests of the results and of motesim. Pictures need matplotlib (on Debian: apt-get
+install python3-matplotlib). docs/use/EXPERIMENTS.md explains all options with examples.
 
 The tool ends with status 0, or with 2 after an error.
 """

@@ -22,7 +22,8 @@ def parser() -> Words:
     add_faults(words)
     words.add_argument('--workers', metavar='N', help='only of a compiled motesim: run the motes on 1 to 16 workers')
     words.add_argument('--cut', choices=['block', 'stripe'], help='with --workers: how the motes are divided')
-    words.add_argument('--sync', choices=['joins', 'marks'], help='with --workers: how the workers wait for one another')
+    words.add_argument('--sync', choices=['joins', 'marks'],
+                       help='with --workers: how the workers wait for one another')
     return words
 
 

@@ -4,8 +4,8 @@
 
 The proved program `motecheck` tries all single faults, then all pairs, and so on, up to --at-most faults at once. For
 each smallest set of faults that breaks an expectation, the tool writes a file of faults into the folder NAME.search,
-or into the folder that -o names; all tools take such a file with --faults. The expectations are those of tools/expect. If
-no file is named, they are in NAME.expect.toml next to the scenario NAME.toml.
+or into the folder that -o names; all tools take such a file with --faults. The expectations are those of tools/expect.
+If no file is named, they are in NAME.expect.toml next to the scenario NAME.toml.
 
 Without an option for a kind of faults, the tool tries --links, --silent and --lost. Other values, places, losses or
 lengths of queues are parameters of a plan: tools/sweep measures runs with them, and tools/scenario writes one of its

@@ -47,7 +47,8 @@ def parser() -> Words:
     words.add_argument('scenario', metavar='SCENARIO', help='a scenario, NAME.toml')
     words.add_argument('expectation', nargs='?', metavar='EXPECTATION',
                        help='an expectation of tools/expect, or a file of expectations')
-    words.add_argument('-o', dest='output', metavar='FILE', help='the result; by default NAME.small.toml, next to the scenario')
+    words.add_argument('-o', dest='output', metavar='FILE',
+                       help='the result; by default NAME.small.toml, next to the scenario')
     words.add_argument('--keep', action='append', default=[], metavar='EXPECTATION',
                        help='an expectation that has to hold after each step')
     add_faults(words)

@@ -4,8 +4,8 @@
 
 The tool makes a run for each combination of the values. Each run has a row with its parameters and measures in net.csv.
 If you start the same command again, the tool makes only the missing runs. After Ctrl-C the finished rows stay in the
-file. A run with an error has a row with the error. If a measure fails, its cell is empty, and the row has a note. A plan
-can have values and measures in its table `sweep`: --param replaces the plan's values of the same parameter, and
+file. A run with an error has a row with the error. If a measure fails, its cell is empty, and the row has a note. A
+plan can have values and measures in its table `sweep`: --param replaces the plan's values of the same parameter, and
 --measure adds to the plan's measures. --plot draws what the plan's `plot` describes.
 
 The forms of values are 10,20,40 (these numbers), 1..30 (all whole numbers from 1 to 30), and 0..100..25 (0, 25, 50, 75

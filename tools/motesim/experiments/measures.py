@@ -217,8 +217,8 @@ def _no_moment(kind: str, sentence: Sentence, words: str) -> MeasureFault:
     is_last = isinstance(sentence, Does) and sentence.deed.way == 'finally' and not sentence.relation
     other = ' Write `%s`, which is about each such line, also if it isn\'t the last line.' % re.sub(
         r'\bfinally\s+', '', words, count=1) if is_last else ''
-    return MeasureFault('%r has no moment: a measure `%s:` has an expectation on lines, such as `mote 3 prints flood 1` '
-                        'and `every mote sends`, without `finally`, `just`, an order or a comparison.%s A measure '
+    return MeasureFault('%r has no moment: a measure `%s:` has an expectation on lines, such as `mote 3 prints flood '
+                        '1` and `every mote sends`, without `finally`, `just`, an order or a comparison.%s A measure '
                         '`holds: %s` is 1 if the expectation holds, otherwise 0' % (words, kind, other, words))
 
 

@@ -36,8 +36,8 @@ MADE = ('error', 'note', 'warnings', 'rejected', 'plan_sha256', 'scenario_sha256
 
 @dataclass(frozen=True)
 class Head:
-    """What all rows of a file have in common: the names of the plan and of its parameters, the text of each measure, the
-    digests of the users' files that measures need, and the build of `motesim`."""
+    """What all rows of a file have in common: the names of the plan and of its parameters, the text of each measure,
+    the digests of the users' files that measures need, and the build of `motesim`."""
     plan: str
     parameters: Sequence[str]
     measures: Mapping[str, str]
@@ -55,8 +55,8 @@ class Head:
         return '#%s\n%s' % (json.dumps(dataclasses.asdict(self), ensure_ascii=False), line_of(self.columns))
 
     def origin(self, results: Path, command: str) -> str:
-        """The first line of a table that a command makes of these results: it says where the numbers are from. It has no
-        date, so that the same command on the same results writes the same bytes."""
+        """The first line of a table that a command makes of these results: it says where the numbers are from. It has
+        no date, so that the same command on the same results writes the same bytes."""
         return '#' + json.dumps({
             'command': command, 'tools': VERSION, 'results': results.name,
             'results_sha256': hashlib.sha256(results.read_bytes()).hexdigest(), 'motesim': self.motesim,

@@ -44,7 +44,8 @@ def advice(source: str, fault: ProgramError) -> Correction | None:
     found = _advice(plain, fault)
     return found._replace(
         edits=tuple(it._replace(lines=tuple(map(back, it.lines))) for it in found.edits),
-        facts={name: back(its) if isinstance(its, str) else its for name, its in found.facts.items()}) if found else None
+        facts={name: back(its) if isinstance(its, str) else its
+               for name, its in found.facts.items()}) if found else None
 
 
 def _advice(source: str, fault: ProgramError) -> Correction | None:

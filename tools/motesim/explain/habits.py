@@ -63,5 +63,8 @@ def of_line(source: str, fault: ProgramError) -> Iterator[Correction]:
         for found in it.written.finditer(row):
             if not found.start() <= column < found.end():
                 continue
-            new = re.sub(r'<(\w+)>', lambda name: found[name[1]].strip(), it.becomes) if it.becomes is not None else None
-            yield hint('habit', *() if new is None else (replaced(source, line, *found.span(), new),), why=it.why)
+            edits = []
+            if it.becomes is not None:
+                new = re.sub(r'<(\w+)>', lambda name: found[name[1]].strip(), it.becomes)
+                edits.append(replaced(source, line, *found.span(), new))
+            yield hint('habit', *edits, why=it.why)

@@ -39,7 +39,8 @@ def of_loop(name: str, loop: Statement) -> Iterator[Warned]:
         if wait.kind == 'wait_until' and any(map(is_of_event, alternatives(wait.value))) or (
                 wait.kind == 'wait_while' and wait.value and is_of_event(wait.value)):
             yield of_token('waits-at-once', name, wait.token, wait=wait.kind)
-    elif len(inner) == 1 and inner[0].kind == 'pause' and tests_in(loop.value, *OF_EVENT, 'expired', 'running', 'count'):
+    elif len(inner) == 1 and inner[0].kind == 'pause' and tests_in(
+            loop.value, *OF_EVENT, 'expired', 'running', 'count'):
         yield of_token('only-pauses', name, loop.token)
 
 
@@ -85,7 +86,8 @@ def of_timers(name: str, code: Code) -> Iterator[Warned]:
 
 def waits_for(it: Statement, timer: str, *words: str) -> bool:
     """Returns whether a statement waits for this timer only."""
-    return it.kind in FOR_TIMER and isinstance(it.value, Asked) and it.value.of == timer and it.value.token.text in words
+    test = it.value if it.kind in FOR_TIMER else None
+    return isinstance(test, Asked) and test.of == timer and test.token.text in words
 
 
 def surely_run(block: Block) -> Iterator[Statement]:

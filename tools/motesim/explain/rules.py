@@ -36,6 +36,7 @@ def rules() -> dict[str, object]:
     return {
         'programs': [[in_script(it.written.pattern), re.sub(r'<(\w+)>', r'$<\1>', it.becomes), it.why]
                      for it in habits() if it.becomes is not None],
-        'tables': [['^%s$' % form, re.sub(r'\\(\d)', r'$\1', new), HINTS[code]] for form, new, code in [*LINES, *brackets]],
+        'tables': [['^%s$' % form, re.sub(r'\\(\d)', r'$\1', new), HINTS[code]]
+                   for form, new, code in [*LINES, *brackets]],
         'orders': ORDERS, 'hints': {name: HINTS[name] for name in OF_PAGE},
         'keys': {'': keys(top), 'medium': keys(medium), 'mote': keys(TABLES['mote']), 'loss': keys(TABLES['loss'])}}

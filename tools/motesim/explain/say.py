@@ -17,8 +17,8 @@ TEXTS = {
                         '`{receiver}`',
     'ignores-packets': 'packets go to the process `{receiver}`, which never looks at one; wait by `yield_until '
                        'is(packet);`, or leave the `receiver` out',
-    'misses-packets': 'a packet that arrives during this wait is lost, although the same loop waits for packets on line '
-                      '{line} of the program; wait for both, `yield_until (is(packet) || {test});`',
+    'misses-packets': 'a packet that arrives during this wait is lost, although the same loop waits for packets on '
+                      'line {line} of the program; wait for both, `yield_until (is(packet) || {test});`',
     'never-waits': 'nothing in this loop waits, or changes its test `{test}`. The loop ' + HALTS,
     'waits-at-once': '`{wait}` doesn\'t wait here: its test is about the event of this call, and stays the same until '
                      'the next call. The loop ' + HALTS + '; `yield_until` waits for the next call first',
@@ -43,8 +43,8 @@ TEXTS = {
     'too-large': '`{sum}` would be {value}, but the greatest value is 65,535: the result is {result}',
     'never-assigned': '`{variable}` is always {value} here: no statement assigns to it',
     'no-time': '`{value}` is {result}, so the timer is due {due}',
-    'broadcast-stays': 'the program waits for packets, but this `broadcast` posts an event only to the processes of its '
-                       'own mote; `send {value};` sends a packet by radio',
+    'broadcast-stays': 'the program waits for packets, but this `broadcast` posts an event only to the processes of '
+                       'its own mote; `send {value};` sends a packet by radio',
     'unused-program': 'no mote runs the program `{program}`',
     'out-of-range': 'mote {mote} has no other mote within `range`, so it neither reaches nor hears one',
     'loses-everything': 'mote {mote} waits for packets, but each link to it has a loss with `every = 1`, which loses '
@@ -100,8 +100,8 @@ HINTS = {
 DOES = {
     'print': 'process {process} of mote {mote} prints {times:,} times: does a loop repeat without end?',
     'send': 'mote {mote} sends {times:,} packets: does a loop repeat without end?',
-    'pause': 'process {process} of mote {mote} pauses {times:,} times: a `pause` lets no time pass, so a loop that only '
-             'pauses repeats many times in each moment; let the process wait by `yield_until`.',
+    'pause': 'process {process} of mote {mote} pauses {times:,} times: a `pause` lets no time pass, so a loop that '
+             'only pauses repeats many times in each moment; let the process wait by `yield_until`.',
     'post': 'mote {mote} posts {times:,} events to process {process}: does a loop repeat without end?',
     'storm': 'the motes send {packets:,} packets, {times:,} of them mote {mote}: does each packet that arrives lead to '
              'another one?',

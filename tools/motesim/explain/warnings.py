@@ -20,8 +20,8 @@ from motesim.scenario.made import ZERO_GIVEN
 
 
 def silenced(found: Iterator[Warned], text: str, names: Collection[str] = ()) -> Iterator[Warned]:
-    """The warnings without those of some names. If a parameter of the plan that made this text is 0, a 0 of a program may
-    be its value, so there are no warnings about a 0."""
+    """The warnings without those of some names. If a parameter of the plan that made this text is 0, a 0 of a program
+    may be its value, so there are no warnings about a 0."""
     is_given = ZERO_GIVEN.search(text) is not None
     return (it for it in found if it.name not in names and not (is_given and it.name in ABOUT_ZERO))
 

@@ -31,7 +31,9 @@ def status_of(file: str, options: Sequence[str], faults: Sequence[str] = ()) -> 
     refuse_others(file)
     if explained(file, data):
         return FAILED
-    called: list[str | Path] = [program_path(CHECKER), '--report', *options_of(faults), '/dev/stdin'] if faults else [program_path()]
+    called: list[str | Path] = [program_path()]
+    if faults:
+        called = [program_path(CHECKER), '--report', *options_of(faults), '/dev/stdin']
     done = subprocess.run([*called, *options], input=data, stderr=subprocess.PIPE)
     said = done.stderr.decode('utf-8', 'backslashreplace')
     if refusal := refusal_of(said.strip(), faults):

@@ -41,8 +41,8 @@ def answer_within(name: str, data: bytes, limits: Limits, faults: Sequence[str] 
 
 
 def busiest(data: bytes, goes_on: Callable[[], bool] = lambda: True) -> str:
-    """A sentence about what a run does most, up to an end that is early enough; an empty text if it does nothing so often,
-    or if no further run may be tried."""
+    """A sentence about what a run does most, up to an end that is early enough; an empty text if it does nothing so
+    often, or if no further run may be tried."""
     end, said = END.search(data), ''
     for early in ENDS:
         if not goes_on():
@@ -64,10 +64,11 @@ def report_until(data: bytes, end: int) -> Report | None:
 
 
 def most_done(report: Report, end: int) -> str:
-    """What a run does most up to its end: a process, or all motes together. Prints and packets have precedence, because a
-    loop that pauses after each print posts as many events as it prints."""
+    """What a run does most up to its end: a process, or all motes together. Prints and packets have precedence,
+    because a loop that pauses after each print posts as many events as it prints."""
     counts = Counter((it.kind, it.mote, it.process or '') for it in report.lines('print', 'send'))
-    posts = Counter(('pause' if it.event == 'continue' else 'post', it.mote, it.process or '') for it in report.lines('post'))
+    posts = Counter(('pause' if it.event == 'continue' else 'post', it.mote, it.process or '')
+                    for it in report.lines('post'))
     first, second = ((it.most_common(1) or [(('print', 0, ''), 0)])[0] for it in (counts, posts))
     (kind, mote, process), times = first if 2 * first[1] >= second[1] else second
     packets = sum(number for deed, number in counts.items() if deed[0] == 'send')

@@ -1,1 +1,1 @@
-"""Files of a run for other programs, such as GTKWave, Wireshark and pandas. docs/use/REPORT.md has the formats."""
+"""Tables of a run for pandas and R, and programs in C. docs/use/REPORT.md has the tables."""

@@ -115,7 +115,8 @@ class Task:
             return MarksInNet(spread(held, self.part.sentences, lacks), lacks, why, is_refused=True)
         scenario = known or Scenario.parse(text)
         report = Report.parse(got.report)
-        verdicts = of_report(part, sentences, Finder(report, scenario), self.limits) + by_python(self.predicates, report)
+        verdicts = of_report(part, sentences, Finder(report, scenario), self.limits)
+        verdicts += by_python(self.predicates, report)
         held = [Mark(it.sentence, it.holds, (), tuple(it.more), remark=it.remark, broken=it.broken) for it in verdicts]
         marks = [*spread(held, self.part.sentences, lacks), *held[len(sentences):]]
         return MarksInNet(marks, lacks, run=Run('', report, scenario, file) if len(got.report) <= MOST_SHOWN else None,

@@ -25,8 +25,8 @@ th, td { text-align: left; vertical-align: top; padding: 4px 10px 4px 0; border-
 td:first-child { white-space: nowrap; }
 td.number, th.number { text-align: right; white-space: nowrap; font-variant-numeric: tabular-nums; }
 .all { color: #1a7f4b; } .some { color: #9a6200; } .none { color: #c0281f; }
-pre { margin: 2px 0 0; font: 12.5px/1.4 ui-monospace, "DejaVu Sans Mono", monospace; white-space: pre-wrap; opacity: 0.8;
-  overflow-wrap: anywhere; }
+pre { margin: 2px 0 0; font: 12.5px/1.4 ui-monospace, "DejaVu Sans Mono", monospace; white-space: pre-wrap;
+  opacity: 0.8; overflow-wrap: anywhere; }
 .marks { letter-spacing: 2px; white-space: nowrap; }
 </style>
 </head>

@@ -1,4 +1,5 @@
-"""Reads what breaks a claim, as `motecheck` writes it behind ` -- `: `write_break` of crates/claim_text has the grammar.
+"""Reads what breaks a claim, as `motecheck` writes it behind ` -- `: `write_break` of crates/claim_text has the
+grammar.
 
     not for mote 3: at most 2 lines "send" from 40 to 160; line 16 of mote 3, at 129, is one too many
     not for mote 0: the lines "print" have in any order exactly the values 1, 2, 3; missing: 2, 3; superfluous: 7

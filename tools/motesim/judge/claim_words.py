@@ -218,13 +218,14 @@ def same_last(deed: Deed, other: Deed) -> Test:
 def each_value(deed: Deed, limits: Limits, lines: Deed) -> Test:
     """For each value of a deed's lines, the number of lines that have it is within the limits."""
     shown = limits[0] if limits[1] is None else limits[1]
-    form = 'each value of the lines %%s is the value of %s %s %%s' % (limits_text(limits), of_number(shown, 'line', 'lines'))
+    form = 'each value of the lines %%s is the value of %s %s %%s' % (
+        limits_text(limits), of_number(shown, 'line', 'lines'))
     return Test('each', form, (deed, lines), deed.mote, (lines_of(deed), lines_of(lines)), is_high=True)
 
 
 def with_values(kind: str, deed: Deed, values: Sequence[Set[int]], words: str = '') -> Test:
-    """The lines have these values in their order, or in any order; or the last line has the value. `words` are the value
-    by its fields."""
+    """The lines have these values in their order, or in any order; or the last line has the value. `words` are the
+    value by its fields."""
     text_of = set_text if kind == 'last' else item_text
     form = {'values': 'the lines %%s have in order of time exactly the values %s',
             'set': 'the lines %%s have in any order exactly the values %s',

@@ -102,8 +102,8 @@ class Claims:
     # Lines
 
     def field(self, mote: int, field: str, wanted: str | Value, is_named: bool) -> str | None:
-        """The part of a pattern that wants this word or value in a field; None if no line has it. A process has its name
-        if `is_named`, and otherwise its number."""
+        """The part of a pattern that wants this word or value in a field; None if no line has it. A process has its
+        name if `is_named`, and otherwise its number."""
         if isinstance(wanted, Value):
             return set_text(self.links.values(wanted, mote))
         its = self.programs[mote]
@@ -115,7 +115,8 @@ class Claims:
         return wanted if wanted.isdecimal() and str(int(wanted)) == wanted and int(wanted) <= MOST else None
 
     def pattern(self, mote: int, words: Pattern, is_named: bool, is_shown: bool) -> str | None:
-        """The pattern of a mote's lines; None if no line of the mote can fit. If it `is_shown`, fields have their names."""
+        """The pattern of a mote's lines; None if no line of the mote can fit. If it `is_shown`, fields have their
+        names."""
         kind, fields = str(words[0]), FIELDS[str(words[0])].split()
         for value in words:
             if isinstance(value, Value):
@@ -133,7 +134,8 @@ class Claims:
                 parts[PART_OF.get(field, field)] = part
         return ' '.join([kind, *('%s %s' % (name, parts[name]) for name in PARTS if name in parts)])
 
-    def patterns(self, mote: int, patterns: Sequence[Pattern], is_named: bool, is_shown: bool = False) -> tuple[str, ...]:
+    def patterns(self, mote: int, patterns: Sequence[Pattern], is_named: bool, is_shown: bool = False
+                 ) -> tuple[str, ...]:
         return tuple(it for it in [self.pattern(mote, words, is_named, is_shown) for words in patterns] if it)
 
     def deed(self, patterns: Sequence[Pattern], motes: Sequence[int], spans: Sequence[Span]) -> Deed:

@@ -53,13 +53,13 @@ WRITTEN = {
     'replace': 'a table, such as `replace = { "end = 9" = "end = 99" }`',
     'fields': 'a table, such as `fields = { origin = "value / 1024", seq = "value % 1024" }`',
 }
+# The remark after a required sentence.
+REQUIRED = ' (required)'
 
 
 def beside(scenario: Path) -> Path:
     """The file of expectations next to a scenario."""
     return scenario.with_suffix('.expect.toml')
-# The remark after a required sentence.
-REQUIRED = ' (required)'
 
 
 def text_of(path: Path) -> str:
@@ -74,7 +74,8 @@ class Part:
     required  how many of the sentences, from the first one on, a solution must meet to earn anything
     fields    the declared format of packets
     about     the description of a change, if it has one; it is also the name then
-    python    the functions in Python that must find the report right, each as `FILE:FUNCTION`; and the file that names them
+    python    the functions in Python that must find the report right, each as `FILE:FUNCTION`; and the file that names
+    them
     """
     name: str
     sentences: list[str]
@@ -134,7 +135,8 @@ def parts_of(text: str, name: str) -> list[Part]:
     for number, table in enumerate(tables.get('change', []), 1):
         if type(table) is not dict or not table.get('replace'):
             raise Fault('change %d of %s has no table replace' % (number, name))
-        part = part_of(table, 'change %d of %s' % (number, name), {'expect', 'report', 'python', 'about', 'replace'}, name)
+        keys = {'expect', 'report', 'python', 'about', 'replace'}
+        part = part_of(table, 'change %d of %s' % (number, name), keys, name)
         parts.append(dataclasses.replace(part, fields=parts[0].fields))
     return parts
 
@@ -153,8 +155,8 @@ def parts_given(scenario: Path, expectations: Path, given: Sequence[str]) -> lis
 
 
 def place_of_part(number: int, part: Part, name: str) -> str:
-    """The place of a part in its file, in a message: the file, or the number of the change with its description; empty if
-    the expectations are in no file."""
+    """The place of a part in its file, in a message: the file, or the number of the change with its description; empty
+    if the expectations are in no file."""
     if not number:
         return name if part.file else ''
     place = 'change %d of %s' % (number, name)
@@ -182,7 +184,8 @@ def same_report(rows: Iterable[str], wanted: str) -> Verdict:
     """The verdict on a report that must be the same as another report."""
     for number, (row, line) in enumerate(itertools.zip_longest(rows, wanted.splitlines(), fillvalue='the end'), 1):
         if row != line:
-            return Verdict(WHOLE, False, ['line %d: %s' % (number, row), 'expected: %s' % line], False, NOT_PROVED, number)
+            difference = ['line %d: %s' % (number, row), 'expected: %s' % line]
+            return Verdict(WHOLE, False, difference, False, NOT_PROVED, number)
     return Verdict(WHOLE, True, [], False, NOT_PROVED)
 
 
@@ -232,8 +235,8 @@ def known_of(text: str, fields: tuple[Field, ...] = (), faults: tuple[str, ...] 
 
 def judged(scenario: str, part: Part, run: Callable[[bytes], Answer] | None = None, limits: Limits = Limits(),
            faults: tuple[str, ...] = ()) -> list[Verdict]:
-    """The verdicts of a part on the run with these faults. `run` makes this run; `limits` are those of `motecheck`. Raises
-    a `NoReport` if the scenario is refused, and no sentence is about this."""
+    """The verdicts of a part on the run with these faults. `run` makes this run; `limits` are those of `motecheck`.
+    Raises a `NoReport` if the scenario is refused, and no sentence is about this."""
     text = changed(scenario, part.replace)
     known, names = known_of(text, part.fields, faults)
     sentences = read_all(part.sentences, names)

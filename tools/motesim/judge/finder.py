@@ -66,8 +66,9 @@ class Finder:
         wanted = [self.links.values(it, mote) if isinstance(it, Value) else it for it in pattern[1:]]
         for event in self.events(mote, str(pattern[0])):
             fields = event.line[2:-1]
-            if len(wanted) <= len(fields) and all(it is None or (str(field) == it if isinstance(it, str) else field in it)
-                                                  for it, field in zip(wanted, fields)):
+            if len(wanted) <= len(fields) and all(
+                    it is None or (str(field) == it if isinstance(it, str) else field in it)
+                    for it, field in zip(wanted, fields)):
                 yield event
 
     def done(self, patterns: Sequence[Pattern], motes: Sequence[int]) -> list[Event]:

@@ -97,7 +97,8 @@ def _of_values(it: Break, test: Test, finder: Finder) -> tuple[int | None, str]:
 
 
 def unwanted(lines: Sequence[Event | Row], test: Test) -> Event | Row | None:
-    """The first line whose value isn't the next one that a test wants; of values in any order, isn't one of those left."""
+    """The first line whose value isn't the next one that a test wants; of values in any order, isn't one of those
+    left."""
     left = list(test.values)
     for it in lines[-1:] if test.kind == 'last' else lines:
         fits = [wanted for wanted in (left if test.kind == 'set' else left[:1])

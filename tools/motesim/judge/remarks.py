@@ -64,7 +64,8 @@ def of_events(it: Does, finder: Finder) -> str:
 def has_values(it: Does, finder: Finder) -> bool:
     """True if there are lines of which a sentence counts those with the same value."""
     assert it.than
-    than = replace(it, motes=it.than.motes or it.motes, deed=it.than.deed or it.deed, window=it.than.window or it.window)
+    than = replace(it, motes=it.than.motes or it.motes, deed=it.than.deed or it.deed,
+                   window=it.than.window or it.window)
     try:
         return any(finder.lines_of(than, (mote,)) for mote in finder.chosen(than.motes))
     except Apart:

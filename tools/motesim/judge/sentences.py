@@ -1,8 +1,8 @@
 """Reads sentences about a report: docs/use/EXPECTATIONS.md has their forms.
 
 `read_sentence('mote 6 prints flood 1 by 60', names)` returns the meaning of a sentence, as one of the classes of
-`motesim.judge.meaning`. A sentence that can't be read raises a `SentenceFault`, which has the place of the error and the
-words that are allowed there.
+`motesim.judge.meaning`. A sentence that can't be read raises a `SentenceFault`, which has the place of the error and
+the words that are allowed there.
 """
 from __future__ import annotations
 
@@ -370,7 +370,8 @@ class _Reader:
             elif self.accept('for each value'):
                 than = replace(self.than() if self.accept('that') else Than(None, None, None), is_each=True)
                 if any(it[0] not in WITH_VALUE for it in deed.patterns + (than.deed or deed).patterns):
-                    raise self.fault_at(at, 'as often as', 'the end (only what motes print, send or receive has a value)')
+                    raise self.fault_at(at, 'as often as',
+                                        'the end (only what motes print, send or receive has a value)')
         if window is None and (than is None or than.window is None):
             window = self.window()
         relation = self.relation(deed) if deed.way == 'any' and than is None else None
@@ -402,7 +403,8 @@ class _Reader:
         return Relation(kind, moments, motes, deed, words)
 
     def event(self, same: Deed) -> tuple[Motes | None, Deed]:
-        """An event: of the mote itself, as in `receiving 1` or `it receives 1`, or of others, as in `mote 2 prints 1`."""
+        """An event: of the mote itself, as in `receiving 1` or `it receives 1`, or of others, as in `mote 2 prints
+        1`."""
         at, self.is_event, self.is_one = self.at, True, True
         motes = None if self.accept('it') else self.motes()
         if motes and motes.kind != 'some' and not motes.is_one:
@@ -430,7 +432,8 @@ class _Reader:
     def every_copy(self) -> Sentence:
         """The sentence that all copies arrive, from the verb on."""
         self.needed(self.verb('arrive'))
-        return Copies(None, OUTCOMES['arrive'], self.mote_list() if self.accept('at mote', 'at motes') else None, Window())
+        receivers = self.mote_list() if self.accept('at mote', 'at motes') else None
+        return Copies(None, OUTCOMES['arrive'], receivers, Window())
 
     def copies(self, count: Count) -> Sentence:
         """A sentence about a number of copies, from the verb on."""
@@ -472,10 +475,11 @@ class _Reader:
 
     def part_of_or(self, it: Sentence) -> Part:
         """A sentence that has an `or` before or behind it. It can't be about a number of motes, or about a text."""
-        if isinstance(it, Does) and it.motes.kind not in ('no', 'count') or isinstance(it, (Copies, Packets, Lines, Hears)):
+        if isinstance(it, (Copies, Packets, Lines, Hears)) or (
+                isinstance(it, Does) and it.motes.kind not in ('no', 'count')):
             return it
-        raise self.fault_at(self.begin, 'an expectation of `mote 3`, `every mote`, `some mote`, copies or packets: `or` '
-                            'joins none of `no mote`, a number of motes, or a text')
+        raise self.fault_at(self.begin, 'an expectation of `mote 3`, `every mote`, `some mote`, copies or packets: '
+                            '`or` joins none of `no mote`, a number of motes, or a text')
 
     def sentence_here(self) -> Sentence:
         self.begin, self.is_one = self.at, True

@@ -26,8 +26,8 @@ class NoVerdict(ProgramFault):
 def answers(scenario: bytes, claims: Sequence[str], *options: str, program: Path | None = None,
             limits: Limits = Limits(), asks_end: Callable[[], bool] = lambda: False, faults: Sequence[str] = ()
             ) -> list[str]:
-    """The lines that `motecheck` writes. Raises a `NoVerdict` if it has no answer; another `ProgramFault` if it refuses a
-    fault, reaches a limit, or is ended by `asks_end`."""
+    """The lines that `motecheck` writes. Raises a `NoVerdict` if it has no answer; another `ProgramFault` if it
+    refuses a fault, reaches a limit, or is ended by `asks_end`."""
     got = Runner(program or program_path(CHECKER), limits, asks_end, faults).answer(
         scenario, *options, '/dev/stdin', 'claims', files={'claims': '\n'.join(claims).encode()})
     if got.status not in (ALL_HOLD, ONE_IS_BROKEN):

@@ -1,7 +1,8 @@
 """The tree of a program, and the walks through it.
 
 `motesim.notation.reader` makes the tree of a text: its nodes have tokens, and so places in the text. Nodes never
-change; a smaller or another tree may have tokens without a place, made by `word`. `motesim.notation.printer` writes both kinds of trees.
+change; a smaller or another tree may have tokens without a place, made by `word`. `motesim.notation.printer` writes
+both kinds of trees.
 """
 from __future__ import annotations
 

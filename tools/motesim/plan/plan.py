@@ -1,5 +1,5 @@
-"""Makes scenarios from a plan, which describes places, programs and losses by rules. docs/use/EXPERIMENTS.md describes all
-tables and keys of plans.
+"""Makes scenarios from a plan, which describes places, programs and losses by rules. docs/use/EXPERIMENTS.md describes
+all tables and keys of plans.
 
     plan = Plan.read('examples/studies/trickle.plan.toml')
     text = plan.scenario({'seed': 7})       # parameters that aren't named have the plan's own values

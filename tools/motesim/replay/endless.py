@@ -45,8 +45,8 @@ class LastRun(DetailedReplay):
 
 
 def endless(program: Program, mote: int, queue: int, trace: list[str], end: int) -> Endless | None:
-    """The loop that used up the work of a mote, by its trace up to a moment; None if the mote didn't halt, or if no loop
-    did."""
+    """The loop that used up the work of a mote, by its trace up to a moment; None if the mote didn't halt, or if no
+    loop did."""
     replay = LastRun(program, mote, queue, trace)
     replay.to_end(end)
     if not replay.is_halted:

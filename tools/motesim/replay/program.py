@@ -1,5 +1,5 @@
-"""A program as the replay runs it: what it declares by numbers, and its statements, each with its value as a function of
-the replay: docs/use/LANGUAGE.md describes each statement."""
+"""A program as the replay runs it: what it declares by numbers, and its statements, each with its value as a function
+of the replay: docs/use/LANGUAGE.md describes each statement."""
 from __future__ import annotations
 
 from collections.abc import Callable

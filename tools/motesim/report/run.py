@@ -89,8 +89,8 @@ def read_run(path: str | Path, scenario: str | Path | None = None, limits: Limit
              program: Path | None = None, faults: Sequence[str] = ()) -> Run:
     """A report from a file, with the scenario from another file if one is named.
 
-    A scenario is run, with these faults; this is a text that begins like a scenario, or a file NAME.toml. The name `-` is
-    standard input.
+    A scenario is run, with these faults; this is a text that begins like a scenario, or a file NAME.toml. The name `-`
+    is standard input.
     """
     data = read_file(path)
     refuse_others(path)

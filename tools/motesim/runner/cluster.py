@@ -18,8 +18,8 @@ from motesim.runner.programs import ProgramFault, program_path
 from motesim.runner.versions import program_digest
 
 PACKAGE = Path(__file__).resolve().parents[1]
-# The seconds for an answer of the scheduler, and those between two looks at `is_over`; the most items in a list, and the
-# number of lists that each worker has at a time.
+# The seconds for an answer of the scheduler, and those between two looks at `is_over`; the most items in a list, and
+# the number of lists that each worker has at a time.
 SECONDS, TICK, MOST_AT_A_TIME, AHEAD = 10, 1, 64, 3
 
 
@@ -99,7 +99,8 @@ class Cluster(Generic[Item, Result]):
                 file.write(source, str(source.relative_to(PACKAGE.parent)))
         return str(path)
 
-    def results(self, items: Iterable[Item], is_over: Callable[[], bool] = lambda: False) -> Iterator[Done[Item, Result]]:
+    def results(self, items: Iterable[Item],
+                is_over: Callable[[], bool] = lambda: False) -> Iterator[Done[Item, Result]]:
         try:
             yield from self._results(iter(items), is_over)
         except Fault:

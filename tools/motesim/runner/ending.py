@@ -1,8 +1,8 @@
 """Ends the runs of this process when a signal or an exception ends it.
 
 The process of a run is the leader of its own group, so that Ctrl-C reaches only the tool, and a run ends together with
-its child processes. Without this module the run would continue after a signal that ends the tool, and nobody would watch
-its limits. A worker of a pool is also such a leader; its runs belong to its group, and end together with it.
+its child processes. Without this module the run would continue after a signal that ends the tool, and nobody would
+watch its limits. A worker of a pool is also such a leader; its runs belong to its group, and end together with it.
 """
 from __future__ import annotations
 

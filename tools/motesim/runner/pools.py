@@ -4,8 +4,8 @@
         for done in workers.results(items):
             print(done.item, done.fault or done.result)
 
-`prepare(shared)` returns the function that does the work of one item; each worker calls it once. An error in one item is
-the fault of only this item; the others continue.
+`prepare(shared)` returns the function that does the work of one item; each worker calls it once. An error in one item
+is the fault of only this item; the others continue.
 """
 from __future__ import annotations
 
@@ -40,7 +40,8 @@ class Pool(Protocol[Item, Result]):
     def __exit__(self, *fault: object) -> None:
         """Ends the workers of this machine at once, with their runs, or forgets those of a cluster."""
 
-    def results(self, items: Iterable[Item], is_over: Callable[[], bool] = lambda: False) -> Iterator[Done[Item, Result]]:
+    def results(self, items: Iterable[Item],
+                is_over: Callable[[], bool] = lambda: False) -> Iterator[Done[Item, Result]]:
         """The results of the items, in the order in which they arrive. Items are read when workers become free. Once
         `is_over()` is true, no further items are read; those that workers have end."""
 

@@ -101,7 +101,8 @@ class NoReport(ProgramFault):
 
 
 class Running:
-    """A run that has begun. `wait` returns the answer of the program, once; any thread may call `stop` to end the run."""
+    """A run that has begun. `wait` returns the answer of the program, once; any thread may call `stop` to end the
+    run."""
 
     def __init__(self, process: subprocess.Popen[bytes], limits: Limits, asks_end: Callable[[], bool]):
         self._process, self._limits, self._asks_end = process, limits, asks_end

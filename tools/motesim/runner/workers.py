@@ -108,7 +108,8 @@ class _Worker:
 class Workers(Generic[Item, Result]):
     """A pool of processes of this machine, each of which has at most one item."""
 
-    def __init__(self, prepare: Callable[[Shared], Callable[[Item], Result]], shared: Shared, most: int, seconds: float):
+    def __init__(self, prepare: Callable[[Shared], Callable[[Item], Result]], shared: Shared, most: int,
+                 seconds: float):
         self.made_by, self.most, self.seconds = (prepare, shared), most, seconds
         self.workers: list[_Worker] = []
 
@@ -119,7 +120,8 @@ class Workers(Generic[Item, Result]):
         for worker in self.workers:
             worker.end()
 
-    def results(self, items: Iterable[Item], is_over: Callable[[], bool] = lambda: False) -> Iterator[Done[Item, Result]]:
+    def results(self, items: Iterable[Item],
+                is_over: Callable[[], bool] = lambda: False) -> Iterator[Done[Item, Result]]:
         from multiprocessing.connection import wait
         left = until(is_over, items)
         while busy := self.fed(left):

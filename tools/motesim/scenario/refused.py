@@ -1,4 +1,5 @@
-"""The message about a scenario that `motesim` refuses, which is the same in all tools: the place, the error and the rule."""
+"""The message about a scenario that `motesim` refuses, which is the same in all tools: the place, the error and the
+rule."""
 from __future__ import annotations
 
 from motesim.faults import Fault
@@ -38,7 +39,8 @@ def rule_of(error: ScenarioError) -> str:
 def refused(name: str, data: bytes, error: ScenarioError) -> ScenarioFault:
     """The fault of a scenario from a file of this name."""
     if data.startswith(b'mote 0 '):
-        return ScenarioFault('%s is a report, not a scenario: tools/summary, tools/compare and tools/timeline read it' % name)
+        return ScenarioFault(
+            '%s is a report, not a scenario: tools/summary, tools/compare and tools/timeline read it' % name)
     line = line_of(data.decode('utf-8', 'replace'), error)
     if error.message == NOT_TEXT and line:
         return ScenarioFault(not_text(name, line))

@@ -63,8 +63,8 @@ class Scenario:
 
     @classmethod
     def parse(cls, text: str | bytes, name: str = 'the scenario') -> Scenario:
-        """Reads a scenario, which may begin with a byte order mark; any other text raises a `ScenarioFault`, in which it
-        has this name."""
+        """Reads a scenario, which may begin with a byte order mark; any other text raises a `ScenarioFault`, in which
+        it has this name."""
         data = text.encode('utf-8', 'surrogatepass') if isinstance(text, str) else text
         try:
             return cls(tables_of(data), data.decode('utf-8'))

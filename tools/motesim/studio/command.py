@@ -83,7 +83,8 @@ def status_of(asked: argparse.Namespace) -> int:
     # (the studio runs for hours, so it needs the garbage collector, unlike other commands)
     gc.enable()
     program_path()
-    session = Session(Desk(asked.file), limits_of(asked), pinned(asked.against) if asked.against else None, faults_asked(asked))
+    session = Session(Desk(asked.file), limits_of(asked), pinned(asked.against) if asked.against else None,
+                      faults_asked(asked))
     session.desk.first()
     try:
         server = server_of(session)

@@ -170,7 +170,8 @@ class Desk:
             raise Fault('the studio writes expectations only next to its own file: save this scenario first')
         path = self.path('folder', document['name'].removesuffix('.toml') + '.expect.toml')
         if stamp_of(self.data(path)) != stamp:
-            raise Fault('%s was changed elsewhere since it was read here; its expectations are shown after the next run' % path.name)
+            raise Fault('%s was changed elsewhere since it was read here; its expectations are shown after the next '
+                        'run' % path.name)
         self.write(path, text.encode('utf-8'))
 
     def save_new(self, document: dict[str, Any], name: str) -> str:

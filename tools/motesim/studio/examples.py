@@ -1,5 +1,5 @@
-"""What pages on which scenarios are written offer to begin with: the examples, the words of the notation and the rules of
-corrections."""
+"""What pages on which scenarios are written offer to begin with: the examples, the words of the notation and the rules
+of corrections."""
 from __future__ import annotations
 
 import json
@@ -13,8 +13,8 @@ CARDS = PACKAGE / 'web/examples.json'
 
 
 def offered() -> dict[str, Any]:
-    """The cards of some examples, the texts of all by the names of their files, the words of the notation, and the rules
-    of corrections."""
+    """The cards of some examples, the texts of all by the names of their files, the words of the notation, and the
+    rules of corrections."""
     paths = sorted(EXAMPLES.glob('*.toml'))
     texts = {path.stem: path.read_text('utf-8') for path in paths if not path.name.endswith('.expect.toml')}
     cards = [it for it in json.loads(CARDS.read_text('utf-8')) if it['file'] in texts]

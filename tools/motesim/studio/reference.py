@@ -28,8 +28,10 @@ def blocks(text: str) -> Iterator[str]:
         for block in filter(str.strip, rest.split('\n\n')):
             rows = block.strip().split('\n')
             if rows[0].startswith('|'):
-                cells = [[inline(it) for it in re.split(r'(?<!\\)\|', row.strip('|'))] for row in rows if not row.startswith('|---')]
-                yield '<table>%s</table>' % ''.join('<tr>%s</tr>' % ''.join('<td>%s</td>' % it for it in row) for row in cells)
+                cells = [[inline(it) for it in re.split(r'(?<!\\)\|', row.strip('|'))] for row in rows
+                         if not row.startswith('|---')]
+                yield '<table>%s</table>' % ''.join('<tr>%s</tr>' % ''.join('<td>%s</td>' % it for it in row)
+                                                    for row in cells)
             else:
                 yield '<p>%s</p>' % inline(' '.join(rows))
 

@@ -34,9 +34,9 @@ HEADERS = {
     'Cache-Control': 'no-store', 'Referrer-Policy': 'no-referrer', 'X-Content-Type-Options': 'nosniff',
     'X-Frame-Options': 'DENY', 'Cross-Origin-Resource-Policy': 'same-origin',
     'Cross-Origin-Opener-Policy': 'same-origin',
-    'Content-Security-Policy': "default-src 'none'; script-src 'self' 'wasm-unsafe-eval'; worker-src blob:; style-src 'self' 'unsafe-inline'; "
-                               "img-src 'self' data: blob:; connect-src 'self'; base-uri 'none'; form-action 'none'; "
-                               "frame-ancestors 'none'",
+    'Content-Security-Policy': "default-src 'none'; script-src 'self' 'wasm-unsafe-eval'; worker-src blob:; style-src "
+                               "'self' 'unsafe-inline'; img-src 'self' data: blob:; connect-src 'self'; base-uri "
+                               "'none'; form-action 'none'; frame-ancestors 'none'",
 }
 
 
@@ -54,14 +54,16 @@ def worker() -> bytes:
 # Other files of the page: their kinds, and functions that return them.
 FILES: dict[str, tuple[str, Callable[[], bytes]]] = {
     'motecheck.wasm': ('application/wasm', lambda: file_of('motecheck').read_bytes()),
-    'motesim.html': (HTML, lambda: file_of('motesim').with_suffix('.html').read_bytes()), 'worker.js': (JAVASCRIPT, worker)}
+    'motesim.html': (HTML, lambda: file_of('motesim').with_suffix('.html').read_bytes()),
+    'worker.js': (JAVASCRIPT, worker)}
 
 
 def page() -> bytes:
     """The page."""
     # (a browser that knows all modules from the beginning needn't find one after another)
     loads = ''.join('<link rel="modulepreload" href="%s">\n' % name for name in modules())
-    fill = {'HELP': reference(), 'TITLE': 'motesim studio', 'KIND': 'served', 'STYLE': style(), 'POLICY': loads, 'SCRIPT': SCRIPT}
+    fill = {'HELP': reference(), 'TITLE': 'motesim studio', 'KIND': 'served', 'STYLE': style(), 'POLICY': loads,
+            'SCRIPT': SCRIPT}
     return MARK.sub(lambda mark: fill.get(mark[1], ''), TEMPLATE.read_text('utf-8')).encode('utf-8')
 
 

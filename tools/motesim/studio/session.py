@@ -115,7 +115,8 @@ class Session:
     def advise(self, asked: dict[str, Any]) -> Answered:
         """What a run that was stopped at a limit does so often."""
         until = time.monotonic() + self.limits.seconds
-        return as_json({'does': busiest(_text(asked, 'text').encode('utf-8'), goes_on=lambda: time.monotonic() < until)})
+        return as_json({'does': busiest(_text(asked, 'text').encode('utf-8'),
+                                        goes_on=lambda: time.monotonic() < until)})
 
     def done(self, asked: dict[str, Any]) -> answers.Finished:
         """The run of a text, which is kept; a run of another text is stopped."""
@@ -156,7 +157,8 @@ class Session:
     def expected(self, asked: dict[str, Any]) -> Answered:
         """What a text must show, and the file that says so."""
         found = self.expectations(asked)
-        file = None if found is None else {'name': found[0], 'text': found[1], 'stamp': stamp_of(found[1].encode('utf-8'))}
+        file = None if found is None else {'name': found[0], 'text': found[1],
+                                           'stamp': stamp_of(found[1].encode('utf-8'))}
         return as_json({**answers.expected_of(_text(asked, 'text'), _text(asked, 'saved'), found), 'file': file})
 
     def expect(self, asked: dict[str, Any]) -> Answered:

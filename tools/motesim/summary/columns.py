@@ -16,7 +16,8 @@ MOTES = {'sent': 'packets that the mote sent', **COPIES,
          'refused': 'events that the full queue refused',
          'prints': 'lines that it printed',
          'halt': 'the moment at which it halted; for the net, the number of halted motes'}
-LINKS = {'from': 'the sender', 'to': 'the receiver', **COPIES, 'delay': 'moments from the sending of a packet to its arrival'}
+LINKS = {'from': 'the sender', 'to': 'the receiver', **COPIES,
+         'delay': 'moments from the sending of a packet to its arrival'}
 FLOWS = {'origin': 'the mote at which messages began',
          'sent': 'messages that began there',
          'delivered': 'messages that arrived at another mote at least once',
@@ -24,7 +25,7 @@ FLOWS = {'origin': 'the mote at which messages began',
          'reached': 'the number of motes that a message reached, on average',
          'copies': 'all deliveries',
          'duplicates': 'deliveries to a mote that already had the message',
-         'hops': "the hops to the reached motes, on average, by links that don't lose everything; `-` without a scenario",
+         'hops': "the hops to the reached motes, on average, by links that don't lose all; `-` without a scenario",
          'least': 'the least number of moments from the beginning of a message to its first delivery at a mote',
          'middle': 'their median', 'most': 'the greatest number of these moments'}
 INTERVALS = {'from': 'the first moment', 'to': 'the last moment', 'sent': 'packets that were sent',

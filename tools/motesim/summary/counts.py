@@ -55,7 +55,8 @@ def row_of(report: Report, became: Counter[Any], key: object, begin: int, end: i
 def of_motes(report: Report) -> list[Row]:
     """A row for each mote."""
     became, starts = Counter(zip(report.log.to, map(OUTCOMES.__getitem__, report.fates))), report.trace.starts
-    return [{'mote': it.number, 'program': it.program, **row_of(report, became, it.number, *starts[it.number:it.number + 2]),
+    return [{'mote': it.number, 'program': it.program,
+             **row_of(report, became, it.number, *starts[it.number:it.number + 2]),
              'halt': it.halted()} for it in report.motes]
 
 
@@ -176,7 +177,8 @@ def status_of(asked: argparse.Namespace) -> int:
     if asked.links and (asked.csv or asked.json or links):
         return show(asked, links, LINK_NAMES, {'links': links})
     if not asked.links:
-        show(asked, motes + [net], list(net), {name: its for name, its in parts.items() if not (asked.motes and name == 'links')})
+        show(asked, motes + [net], list(net),
+             {name: its for name, its in parts.items() if not (asked.motes and name == 'links')})
     if not (asked.json or asked.csv or asked.motes):
         lines = table(links, LINK_NAMES) if links else ['no link carried anything']
         print('\n'.join([*[''] * (not asked.links), *lines]))

@@ -30,20 +30,20 @@ FORM = re.compile(r'\s*(?:(send|recv)|print\s+([A-Za-z][A-Za-z0-9_]*))'
                   r'(?:\s+([0-9]{1,5})(?:\s+to\s+([0-9]{1,5}))?)?\s*')
 
 # The warnings about messages that have the same value.
-SHARED = ('several motes print the same value as a source: motes %d and %d print %d. Messages are matched by value, so the '
-          'message of one mote counts as that of the other. Print values that differ for each mote, such as '
+SHARED = ('several motes print the same value as a source: motes %d and %d print %d. Messages are matched by value, '
+          'so the message of one mote counts as that of the other. Print values that differ for each mote, such as '
           '`print ((self * 256) + n)`, or use another measure')
-TWICE = ('a mote prints the same value twice as a source: mote %d prints %d at moment %d and at moment %d. Messages are '
-         'matched by value, so these two messages count as one in a flow, and in a `delivery` a duplicate of the later '
-         'one counts as the earlier one. Print another value for each message, or use another measure')
+TWICE = ('a mote prints the same value twice as a source: mote %d prints %d at moment %d and at moment %d. Messages '
+         'are matched by value, so these two messages count as one in a flow, and in a `delivery` a duplicate of the '
+         'later one counts as the earlier one. Print another value for each message, or use another measure')
 # The end of the first of these warnings if the same lines begin messages and deliver them.
 SAME_LINES = ('. In this flow, the same lines begin messages and deliver them: the first line with a value begins the '
               'message, and the lines of other motes with this value are its deliveries. So messages of several motes '
               'need different lines for their beginning and their delivery, as in `print source -> print sink`')
 # The fault of a flow without a value.
-NO_VALUE = ('no flow: %%r: no value from 0 to %d is in its ranges, each of which is from a number to a greater one. A flow '
-            'recognises a message by its value, so the line that begins a message and the lines that deliver it must print '
-            'or send the same value' % MOST_WORD)
+NO_VALUE = ('no flow: %%r: no value from 0 to %d is in its ranges, each of which is from a number to a greater one. A '
+            'flow recognises a message by its value, so the line that begins a message and the lines that deliver it '
+            'must print or send the same value' % MOST_WORD)
 
 
 class FlowFault(Fault):

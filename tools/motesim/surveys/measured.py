@@ -39,8 +39,9 @@ def runs_of(work: Work) -> Callable[[Set], Measured]:
     def run(faults: Set) -> Measured:
         report = Report.parse(Runner(limits=work.limits, faults=faults).report(work.scenario.text.encode()))
         finder = Finder(report, work.scenario)
-        missing = [test.deed for claim in work.claims for case in claim.cases for test in case.tests
-                   if test.deed and test.least > len(finder.lines(test.deed))] if broken_by(faults, work.scenario) else []
+        tests = (test for claim in work.claims for case in claim.cases for test in case.tests)
+        missing = [it.deed for it in tests if it.deed and it.least > len(finder.lines(it.deed))] if broken_by(
+            faults, work.scenario) else []
         return Measured(shortfall_of(finder, work.claims), missing, [moment_of(it, report) for it in faults])
     return run
 

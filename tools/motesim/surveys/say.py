@@ -26,7 +26,7 @@ def cut_in_words(cut: Cut) -> str:
 
 def kinds_in_words(kinds: Kinds) -> str:
     """The kinds of faults, with their values."""
-    return '; '.join(KINDS[kind][1].partition(',')[0] + (': %s moments' % values if values else '')
+    return '; '.join(KINDS[kind][1].partition(',')[0] + (': ' + values if values else '')
                      for kind, values in kinds.items())
 
 
@@ -108,7 +108,7 @@ def last_lines(result: Result, folder: Path, scenario: Path) -> Iterator[str]:
     yield result_line(result)
     if result.found:
         count = sum(bool(it.file) for it in result.found)
-        yield '%s in %s, with the table found.csv; `tools/timeline %s --faults FILE` draws one' % (
+        yield '%s in %s, with the table found.csv; `tools/studio %s --faults FILE` opens one' % (
             counted(count, 'counter-example is', 'counter-examples are'), folder, scenario)
     if result.ended_by:
         yield 'NOT ALL WAS TRIED: %s' % result.ended_by

@@ -33,8 +33,8 @@ MOST_MEASURED, NO_LIMITS = 200, Limits(float('inf'))
 
 
 class Asked(NamedTuple):
-    """What is asked: a scenario, its expectations, the kinds of faults, and the bounds; the most seconds; and whether to
-    try larger sets only until each expectation is broken, which says how many faults it bears."""
+    """What is asked: a scenario, its expectations, the kinds of faults, and the bounds; the most seconds; and whether
+    to try larger sets only until each expectation is broken, which says how many faults it bears."""
     scenario: Scenario
     texts: Sequence[str]
     kinds: Kinds = USUAL
@@ -108,13 +108,15 @@ Shown = Callable[[int, Survey | None, float], None]
 
 
 def search_of(asked: Asked, workers: int = os.cpu_count() or 1, limits: Limits = LIMITS,
-              asks_end: Callable[[], bool] = lambda: False, shown: Shown = lambda size, survey, seconds: None) -> Result:
+              asks_end: Callable[[], bool] = lambda: False,
+              shown: Shown = lambda size, survey, seconds: None) -> Result:
     """Searches until all sets are covered, a limit is reached, or `asks_end()` is true. Meanwhile, `shown` is told the
     present size, the last survey, and the seconds. Raises a `Fault` if there is nothing to search for."""
     begun = time.monotonic()
     claims, unsaid = claims_of(asked)
     if not claims:
-        raise Fault('; '.join('%s: no claim: %s' % it for it in unsaid.items()) or 'there is no expectation on a report')
+        raise Fault('; '.join('%s: no claim: %s' % it for it in unsaid.items())
+                    or 'there is no expectation on a report')
     survey, ended_by = surveyed(asked, claims, workers, asks_end,
                                 lambda size, last: shown(size, last, time.monotonic() - begun), begun)
     sets = sets_of(claims, survey)

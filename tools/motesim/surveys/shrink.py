@@ -104,9 +104,10 @@ class Shrinking:
                     ', or breaks an expectation of --keep' * bool(self.case.keeps))
             raise Fault('the scenario does not break `%s`%s' % (self.case.sentence, more))
 
-    def seen(self, text: str, words: Sequence[str], is_first_broken: bool, faults: Sequence[NetFault] = ()) -> Seen | None:
-        """The report of a text with faults, with what breaks these sentences: the first one is broken, or holds, and the
-        others hold. None if they are otherwise, or can't be read; if there is no report; or if it is too long."""
+    def seen(self, text: str, words: Sequence[str], is_first_broken: bool,
+             faults: Sequence[NetFault] = ()) -> Seen | None:
+        """The report of a text with faults, with what breaks these sentences: the first one is broken, or holds, and
+        the others hold. None if they are otherwise, or can't be read; if there is no report; or if it is too long."""
         scenario = self.scenario(text)
         scenario.faults = tuple(it.text for it in faults)
         read = [it for it in (read_or_none(it, scenario) for it in words) if it]
@@ -214,7 +215,8 @@ class Shrinking:
 
     def causes(self) -> tuple[Cause, Cause] | None:
         """The causes for which the first and the present scenario break the sentence, if they differ."""
-        first, now = (cause_of(Source(NAME, Report.parse(seen.report), seen.scenario), case.sentence) if seen else NO_CAUSE
+        first, now = (cause_of(Source(NAME, Report.parse(seen.report), seen.scenario), case.sentence)
+                      if seen else NO_CAUSE
                       for case, seen in ((self.first, self.seen_first), (self.case, self.now)))
         return (first, now) if now.differs(first) else None
 

@@ -105,7 +105,8 @@ def shrunk(asked: argparse.Namespace, program: Runner, stop: Break) -> int:
     check(asked.scenario, text.encode())
     scenario = Scenario.parse(text)
     scenario.fields, scenario.faults = fields_beside(path), faults_asked(asked)
-    made = Path(asked.output) if asked.output else output.beside(asked.scenario, name.removesuffix('.toml') + '.small.toml')
+    small = name.removesuffix('.toml') + '.small.toml'
+    made = Path(asked.output) if asked.output else output.beside(asked.scenario, small)
     is_file = not asked.expectation or asked.expectation.endswith('.toml')
     expected = Path(asked.expectation) if asked.expectation else beside(path)
     for it in made, beside(made), made.with_suffix('.faults'):

@@ -67,8 +67,8 @@ def _wrong_keys(study: object) -> str:
             return 'the value of `%s` has to be %s' % (key, FORMS[key])
     other = next((it for it in study.get('kinds', []) if it not in KINDS or it in VALUES), None)
     if other is not None:
-        return 'there is no kind of fault %s%s' % (other, ' without values: `%s = [1, 4]`' % other if other in VALUES else
-                                                   '; ' + known(other, [*KINDS]))
+        return 'there is no kind of fault %s%s' % (
+            other, ' without values: `%s = [1, 4]`' % other if other in VALUES else '; ' + known(other, [*KINDS]))
     return '' if 'expect' in study and ('breaks' in study) != ('counts' in study) else (
         'it needs `expect`, and exactly one of `breaks` and `counts`')
 

@@ -216,7 +216,8 @@ class RandomProgram:
         return '[' in parts or all(self.names.get(part, True) for part in parts)
 
     def random_statement(self, indent: str, depth: int) -> None:
-        out = ('if', 'while') * (depth > 3) + tuple(name for name, it in STATEMENTS.items() if self.is_simple and it.waits)
+        waits = [name for name, it in STATEMENTS.items() if self.is_simple and it.waits]
+        out = [*waits, *('if', 'while') * (depth > 3)]
         kinds = [it.name for it in forms('statement') if self.can_come(it.parts) and it.name not in out]
         kind = self.chance.choices(kinds, [WEIGHTS.get(it, 4) for it in kinds])[0]
         if kind == 'while' and self.names['VARIABLE'] and self.chance.random() < 0.7:

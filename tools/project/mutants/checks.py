@@ -34,7 +34,8 @@ NOTES = {'allow values at which this goal is false': 'false', 'gave up at one of
 TWIN_ACCEPTED = 'twin accepted; '
 # The goal in an error about a proof by hand.
 OF_GOAL = re.compile(r': error: `([\w-]+)`')
-# The line of a function that is proved; the note about a goal that is not; and an error about a goal of a contract that the edit removed.
+# The line of a function that is proved; the note about a goal that is not; and an error about a goal of a contract
+# that the edit removed.
 PROVED = re.compile(r'fn (\S+): proved$')
 NOT_PROVED = re.compile(r'note: .* it is not proved that .*\(`([^`]+)`\)')
 GONE = re.compile(r'`goal\.(?!loop-)')
@@ -216,8 +217,10 @@ class Trial:
         """Tries the harmless twins of the mutants that are refused, deletes the results that the control has kept, and
         returns the verdicts."""
         with_twin = [it for it in self.found if it.twin and may_pass(self.found[it])]
-        refused = {it: verdict for group in groups(with_twin, twins=True) for it, verdict in self.twins_refused(group).items()}
-        self.found |= {it: refused.get(it) or Verdict(CONTRACT, self.found[it].function, TWIN_ACCEPTED + self.found[it].why)
+        refused = {it: verdict for group in groups(with_twin, twins=True)
+                   for it, verdict in self.twins_refused(group).items()}
+        self.found |= {it: refused.get(it)
+                       or Verdict(CONTRACT, self.found[it].function, TWIN_ACCEPTED + self.found[it].why)
                        for it in with_twin}
         if self.kept:
             shutil.rmtree(self.kept)
@@ -248,7 +251,8 @@ class Trial:
         found = {edit: it for edit, it in found.items() if it.kind == CONTRACT or edit.twin and may_pass(it)}
         return found | self.of_halves([it for it in group if it not in found], self.verdicts)
 
-    def of_halves(self, edits: Sequence[Edit], judged: Callable[[Sequence[Edit]], dict[Edit, Verdict]]) -> dict[Edit, Verdict]:
+    def of_halves(self, edits: Sequence[Edit],
+                  judged: Callable[[Sequence[Edit]], dict[Edit, Verdict]]) -> dict[Edit, Verdict]:
         halves = edits[:len(edits) // 2], edits[len(edits) // 2:]
         return {edit: it for half in halves if half for edit, it in judged(half).items()}
 

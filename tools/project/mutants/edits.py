@@ -50,7 +50,8 @@ class Edit:
                 {*lines} & {*it.of_twin.get(path, ())} for path, lines in self.of_twin.items())
 
         return self.may_share and len(group) < MOST and all(
-            it.may_share and it.crate is self.crate and is_apart(it) for it in group) and bool(applied([*group, self], twins))
+            it.may_share and it.crate is self.crate and is_apart(it)
+            for it in group) and bool(applied([*group, self], twins))
 
 
 def applied(edits: Sequence[Edit], twins: bool) -> dict[str, str]:
@@ -67,8 +68,8 @@ def body_of(lines: Sequence[str], at: int, indent: str) -> range:
 
 
 def path_of(lines: Sequence[str], at: int, head: re.Match[str], file: Path) -> str:
-    """TYPE::NAME, TYPETRAIT::NAME or MODULES::NAME of the function whose head is at this line, or NAME in a trait, in an
-    impl of a trait with parameters, or in the root."""
+    """TYPE::NAME, TYPETRAIT::NAME or MODULES::NAME of the function whose head is at this line, or NAME in a trait, in
+    an impl of a trait with parameters, or in the root."""
     if head[1]:
         opening = next((it for it in reversed(lines[:at]) if it and not it.startswith(' ')), '')
         found = IMPL.match(opening)

@@ -27,7 +27,8 @@ from project.mutants.edits import Edit
 from motesim.runner.programs import TOP
 
 KEPT = TOP / 'docs/proof/wrong_bodies.tsv'
-HEAD_LINE = '# written by tools/dev/wrong_bodies: mutant, day, what it came to, function, goals or error, digest, seconds\n'
+HEAD_LINE = ('# written by tools/dev/wrong_bodies: mutant, day, what it came to, function, goals or error, digest, '
+             'seconds\n')
 # The beginnings of lines that have only a comment, by the ending of the file; and of imports.
 COMMENTS = {'.rt': '//', '.antt': '--', '.edit': '#'}
 IMPORTS = 'use ', 'pub use ', 'ghost use '
@@ -39,8 +40,8 @@ MOST_LETTERS = 400
 
 
 class Tried(NamedTuple):
-    """The day on which a mutant was tried, the verdict, the digest of what it is about, and the processor seconds of the
-    longest check of its crate so far, 0 if they aren't known."""
+    """The day on which a mutant was tried, the verdict, the digest of what it is about, and the processor seconds of
+    the longest check of its crate so far, 0 if they aren't known."""
     day: str
     verdict: Verdict
     digest: str
@@ -57,7 +58,8 @@ def code_of(file: Path) -> str:
 @cache
 def definitions_in(file: Path, crates: Path) -> frozenset[Path]:
     """The modules of definitions that a file imports, without those of the kit, and those of declared types."""
-    named = [crates / crate / 'specs' / path.replace('.', '/') for crate, path in DEFINITIONS.findall(file.read_text('utf-8'))]
+    named = [crates / crate / 'specs' / path.replace('.', '/')
+             for crate, path in DEFINITIONS.findall(file.read_text('utf-8'))]
     modules = {it.with_suffix('.antt') for path in named for it in (path, path.parent)}
     return frozenset(filter(Path.is_file, modules))
 
@@ -117,7 +119,8 @@ def note(found: Mapping[Edit, Verdict], edits: Iterable[Edit], needed: Mapping[s
     today, names = time.strftime('%Y-%m-%d'), {it.name for it in edits}
     kept = {name: it for name, it in noted().items() if name in names}
     kept |= {it.name: Tried(today, verdict, digest(it)) for it, verdict in found.items()}
-    rows = ['\t'.join([name, day, kind, function, shown(why), digest, str(max(seconds, needed.get(crate_of(name), 0)))]) + '\n'
+    rows = ['\t'.join([name, day, kind, function, shown(why), digest,
+                       str(max(seconds, needed.get(crate_of(name), 0)))]) + '\n'
             for name, (day, (kind, function, why), digest, seconds) in sorted(kept.items())]
     KEPT.parent.mkdir(exist_ok=True)
     KEPT.write_text(HEAD_LINE + ''.join(rows), 'utf-8')
