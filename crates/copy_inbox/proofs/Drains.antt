@@ -1,13 +1,5 @@
 -- A drain, item by item.
-use Rattle.std.proofs.Common.{◌≡◌, ◌≢◌, ℕ, ◌+◌, ◌≤◌, Bool, true, false, cond, List, [], ◌∷◌, ◌++◌, length, map, refl, sym, ap, ◌∙◌, subst, arith, length-append, append-nil, append_assoc}
-use Rattle.std.proofs.lemmas.Bool.{true≢false}
-use Rattle.std.proofs.lemmas.List.{map-append}
-use Rattle.radio_packet.specs.declared.copy.RadioCopy.{RadioCopy}
-use Rattle.copy_inbox.specs.declared.items.Carried.TheVariants.{Packet}
-use Rattle.copy_inbox.specs.declared.items.Item.{Item}
-use Rattle.copy_inbox.specs.Items.{what_of, ArePackets, part}
-use Rattle.copy_inbox.specs.Gathered.{known_of, is_gathered, Later, NoOthers}
-use Rattle.copy_inbox.specs.Handles.{TakerView, after_taking, TakesPackets, MayBeTaken}
+use Rattle.copy_inbox.proofs.Common.{◌≡◌, ◌≢◌, ℕ, ◌+◌, ◌≤◌, Bool, true, false, cond, List, [], ◌∷◌, ◌++◌, length, map, sym, ap, ◌∙◌, subst, arith, length-append, append_assoc, true≢false, map-append, RadioCopy, Packet, Item, what_of, ArePackets, part, known_of, is_gathered, Later, NoOthers, TakerView, after_taking, TakesPackets, MayBeTaken}
 use Rattle.copy_inbox.proofs.Parts.{part-snoc_else}
 
 abbrev pub known_to : TakerView → ℕ
@@ -23,18 +15,6 @@ pub record Drained (old new : TakerView) (copies : List RadioCopy) (n : ℕ) : T
   pub known : known_to old ≤ known_to new + n
   pub later : Later old.state.made old.state.gathered → n ≤ known_to old → known_to old ≡ known_to new + n
   pub others : Later old.state.made old.state.gathered → n ≤ known_to old → NoOthers old.state.gathered old.state.taken new.state.taken
-
-pub drain_begins : (t : TakerView) → TakesPackets t.state → Drained t t [] 0
-drain_begins t packets = record {
-  items = [];
-  given = refl;
-  long = refl;
-  now = λ i. record { inbox = t.inbox; state = record { marked = t.state.marked; made = t.state.made; taken = sym (append-nil t.state.taken) i; gathered = t.state.gathered } };
-  packets = packets;
-  known = omega arith;
-  later = λ _ _. omega arith;
-  others = λ _ _ s unseen. refl;
-}
 
 cond_le : (b : Bool) → cond b 1 0 ≤ 1
 cond_le true = omega arith

@@ -1,19 +1,5 @@
 -- The counts that a taker keeps after it has dropped the first ones.
-use Rattle.std.proofs.Common.{◌≡◌, ◌≢◌, ℕ, zero, suc, ◌+◌, ◌-◌, ◌^◌, ◌≤◌, ◌<◌, Bool, true, false, cond, eqb, List, [], ◌∷◌, ◌++◌, length, drop, set, get_or, refl, sym, ap, ◌∙◌, subst, ⊎_elim, arith, length-append}
-use Rattle.std.proofs.lemmas.Bool.{cases_lt, true≢false}
-use Rattle.std.proofs.lemmas.Bool.Decides.{eqb_tells}
-use Rattle.std.proofs.lemmas.List.{drop-set-lt, drop-set-add, get_or-drop, length-drop, drop-append-le}
-use Rattle.std.proofs.Math.ListN.{length-set}
-use mir.Val.{bool_byte}
-use Rattle.copy_inbox.specs.declared.items.Item.{Item}
-use Rattle.copy_inbox.specs.declared.count.Count.{Count}
-use Rattle.copy_inbox.specs.declared.rule.View.{View}
-use Rattle.copy_inbox.specs.Items.{part}
-use Rattle.copy_inbox.specs.Gathered.{is_gathered, known_of}
-use Rattle.copy_inbox.specs.Views.{new_taker, with_one_more, with_gathered, with_taken}
-use Rattle.copy_inbox.specs.Rule.{SeenBy}
-use Rattle.copy_inbox.specs.Handles.{taker_state_in, sender_state_in, IsSender}
-use Rattle.copy_inbox.specs.Kept.{KeepsSenderCounts, CountsTaken, Forgets}
+use Rattle.copy_inbox.proofs.Common.{◌≡◌, ◌≢◌, ℕ, zero, suc, ◌+◌, ◌-◌, ◌^◌, ◌≤◌, ◌<◌, Bool, true, false, cond, eqb, List, [], ◌∷◌, ◌++◌, length, drop, set, get_or, refl, sym, ap, ◌∙◌, subst, ⊎_elim, arith, length-append, cases_lt, true≢false, eqb_tells, drop-set-lt, drop-set-add, get_or-drop, length-drop, drop-append-le, length-set, bool_byte, Item, Count, View, part, is_gathered, known_of, with_one_more, with_gathered, with_taken, SeenBy, taker_state_in, sender_state_in, IsSender, KeepsSenderCounts, CountsTaken, Forgets}
 use Rattle.copy_inbox.proofs.Takers.{count, byte_is, more_as, took_as, joined_state, joined_is, joined_seen, joined_leaves, joined_index, next_below, next_known, next_kept, next_fits}
 
 -- ---- the count of a sender that is still counted
@@ -33,25 +19,6 @@ still_made first old new kept now made same rest =
     let long = ap length rest in
     omega (arith, length-drop first new)
 
--- ---- a new taker
-pub keeps_none : (v : View) → v ≡ new_taker → KeepsSenderCounts v 0 [] 0
-keeps_none v e = subst (λ (u : View). KeepsSenderCounts u 0 [] 0) (sym e) (record {
-  counts = [];
-  taker = record {
-    is = refl;
-    made = refl;
-    counted = λ s c lt. absurd (omega arith);
-    known_is = refl;
-    begun = tt;
-    of_made = λ s le. refl;
-    numbers = tt;
-  };
-  rest = refl;
-  made = refl;
-  few = omega arith;
-  gathered = λ s lt. absurd (omega arith);
-})
-
 -- ---- one more sender
 pub keeps_more : (v w : View) (first : ℕ) (kept : List Count) (k : ℕ) → w ≡ with_one_more v → KeepsSenderCounts v first kept k → KeepsSenderCounts w first (kept ++ record { taken = 0; gathered = false } ∷ []) k
 keeps_more v w first kept k e t =
@@ -65,9 +32,6 @@ keeps_more v w first kept k e t =
       few = t.few;
       gathered = λ s lt. ap (λ (u : View). is_gathered (taker_state_in u).gathered s) (e ∙ ap with_one_more t.taker.is) ∙ t.gathered s lt;
     }
-
-pub keeps_made : (v : View) (first : ℕ) (kept : List Count) (k : ℕ) → KeepsSenderCounts v first kept k → first + length kept ≡ (taker_state_in v).made
-keeps_made v first kept k t = t.made ∙ t.taker.made
 
 -- ---- an item taken
 module _ (v : View) (first : ℕ) (kept : List Count) (k : ℕ) (x : Item) (rest : List Item) (t : KeepsSenderCounts v first kept k) (seen : SeenBy v (x ∷ rest)) where

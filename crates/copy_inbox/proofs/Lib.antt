@@ -4,3 +4,4 @@ pub mod Kept
 pub mod Moves
 pub mod Parts
 pub mod Takers
+pub mod Common

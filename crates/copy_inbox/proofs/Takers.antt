@@ -1,26 +1,5 @@
 -- The effect of each call on a taker.
-use Rattle.std.proofs.Common.{◌≡◌, ◌≢◌, ℕ, ◌+◌, ◌-◌, ◌^◌, ◌≤◌, ◌<◌, Bool, true, false, cond, eqb, Option, List, [], ◌∷◌, ◌++◌, length, set, get_or, refl, sym, ap, ◌∙◌, subst, ⊎_elim, arith, eq-eqb, ne_eqb, length-append, append-nil, inl, inr}
-use Rattle.std.specs.List.{AllByRecursion as Each}
-use Rattle.std.proofs.lemmas.Bool.Decides.{eqb_tells}
-use Rattle.std.proofs.lemmas.List.{get_or_append_left, get_or-set_same, get_or-set_other}
-use Rattle.std.proofs.Math.Seq.{get_or-append_seam}
-use Rattle.std.proofs.Math.ListN.{length-set}
-use Rattle.std.proofs.lemmas.List.{length-drop}
-use Rattle.std.proofs.lemmas.List.Sums.{sum_by-cons}
-use mir.Val.{bool_byte}
-use Rattle.copy_inbox.specs.declared.items.Carried.{Carried}
-use Rattle.copy_inbox.specs.declared.items.Item.{Item}
-use Rattle.copy_inbox.specs.declared.count.Count.{Count}
-use Rattle.copy_inbox.specs.declared.rule.Gathered.{Gathered}
-use Rattle.copy_inbox.specs.declared.rule.TakerState.{TakerState}
-use Rattle.copy_inbox.specs.declared.rule.SenderState.{SenderState}
-use Rattle.copy_inbox.specs.declared.rule.View.{View}
-use Rattle.copy_inbox.specs.declared.rule.View.TheVariants.{Taking, Sending}
-use Rattle.copy_inbox.specs.Items.{part, carries_packet, Packets, HasPrefix}
-use Rattle.copy_inbox.specs.Gathered.{is_gathered, untaken_of, known_of}
-use Rattle.copy_inbox.specs.Views.{make_taker_state, make_gathered, with_one_more, with_gathered, with_taken}
-use Rattle.copy_inbox.specs.Rule.{Sound, SeenBy}
-use Rattle.copy_inbox.specs.Handles.{taker_state_in, sender_state_in, IsTaker, IsSender, MayBeTaken, AllGathered, PacketsLeft, TakesPackets, state_with}
+use Rattle.copy_inbox.proofs.Common.{◌≡◌, ◌≢◌, ℕ, ◌+◌, ◌-◌, ◌^◌, ◌≤◌, ◌<◌, Bool, true, false, cond, eqb, Option, List, [], ◌∷◌, ◌++◌, length, set, get_or, refl, sym, ap, ◌∙◌, subst, ⊎_elim, arith, eq-eqb, ne_eqb, length-append, append-nil, inl, inr, Each, eqb_tells, get_or_append_left, get_or-set_same, get_or-set_other, get_or-append_seam, length-set, length-drop, sum_by-cons, bool_byte, Carried, Item, Count, Gathered, TakerState, SenderState, View, Taking, Sending, part, carries_packet, Packets, HasPrefix, is_gathered, untaken_of, known_of, make_taker_state, make_gathered, with_one_more, with_gathered, with_taken, Sound, SeenBy, taker_state_in, sender_state_in, IsTaker, IsSender, MayBeTaken, AllGathered, PacketsLeft, TakesPackets, state_with}
 use Rattle.copy_inbox.proofs.Parts.{part-append, part-here, part-else, part-moved, part-not_nil, part-nil_left, part-nil_right}
 use Rattle.copy_inbox.proofs.Moves.{each_map, below, SoundWith, seen_sound}
 use Rattle.copy_inbox.proofs.Counts.{left_is, Adds, adds_of, known-is, begun_of, front_counts, tally-nil, tally-le, front_known}
@@ -282,9 +261,6 @@ next_down v counts k x rest c n t seen at is =
     let one : n ≡ cond (is_gathered (taker_state_in v).gathered x.sender) 1 0 = is ∙ (byte_is c.gathered ∙ ap (λ (y : Count). cond y.gathered 1 0) (next_kept v counts k x rest c t seen at)) in
     (one, t.known_is ∙ ((next_known v x rest t.is seen).known ∙ ap (λ i. i + m) (sym one)))
 
-pub next_less : (v : View) (counts : List Count) (k : ℕ) (x : Item) (rest : List Item) (c : Count) (n : ℕ) → IsTaker v counts k → SeenBy v (x ∷ rest) → c ≡ get_or counts x.sender c → n ≡ bool_byte c.gathered → n ≤ k
-next_less v counts k x rest c n t seen at is = let d = next_down v counts k x rest c n t seen at is in omega arith
-
 -- the number of items taken from one sender doesn't overflow
 pub next_fits : (v : View) (counts : List Count) (k : ℕ) (x : Item) (rest : List Item) (c : Count) → IsTaker v counts k → SeenBy v (x ∷ rest) → c ≡ get_or counts x.sender c → c.taken + 1 < 2 ^ 64
 next_fits v counts k x rest c t seen at =
@@ -294,13 +270,6 @@ next_fits v counts k x rest c t seen at =
     let e = ap length (sym (part-append x.sender d.taken (x ∷ rest)) ∙ s.2.parts x.sender) in
     let kept = ap (λ (y : Count). y.taken) (next_kept v counts k x rest c t seen at) in
     omega (arith, length-append (part x.sender d.taken) (part x.sender (x ∷ rest)))
-
-pub next_leaves : (v w : View) (counts : List Count) (k : ℕ) (x : Item) (rest : List Item) (c : Count) (n : ℕ) → IsTaker v counts k → SeenBy v (x ∷ rest) → w ≡ with_taken v x → c ≡ get_or counts x.sender c → n ≡ bool_byte c.gathered
-    → IsTaker w (set counts x.sender (count (c.taken + 1) c.gathered)) (k - n)
-next_leaves v w counts k x rest c n t seen e at is =
-    let d = next_down v counts k x rest c n t seen at is in
-    let kept = next_kept v counts k x rest c t seen at in
-    took_as v w x rest counts k (k - n) n (count (c.taken + 1) c.gathered) seen e t d.0 (omega arith) (λ i. count ((kept i).taken + 1) (kept i).gathered)
 
 pub joined_seen : (v u w : View) (counts : List Count) (k pushed : ℕ) (items : List Item) → IsTaker v counts k → IsSender u pushed → w ≡ with_gathered v u → SeenBy w items → SoundWith (joined_state (taker_state_in v) (sender_state_in u)) items
 joined_seen v u w counts k pushed items t r e seen = seen_sound w (joined_state (taker_state_in v) (sender_state_in u)) items (joined_is v u w t.is r.is e) seen
