@@ -1,14 +1,6 @@
 -- Copies that arrived early can't be seen.
-use Rattle.std.proofs.Common.{◌≡◌, ℕ, zero, suc, ◌+◌, ◌-◌, ◌<◌, ◌≤◌, Bool, true, false, List, [], ◌∷◌, ◌++◌, map, filter, refl, sym, ap, ◌∙◌, arith, subst, append_assoc, append-nil}
-use Rattle.std.specs.List.{AllByRecursion as Each}
-use Rattle.std.proofs.lemmas.List.Elements.{filter-append}
-use Rattle.radio_packet.specs.declared.copy.RadioCopy.{RadioCopy}
-use Rattle.copy_inbox.specs.declared.items.Carried.{Carried}
-use Rattle.copy_inbox.specs.declared.items.Carried.TheVariants.{Packet, Mark}
-use Rattle.copy_exchange.specs.Takers.{copies_in}
+use Rattle.copy_exchange.proofs.Common.{◌≡◌, ℕ, zero, suc, ◌+◌, ◌-◌, ◌<◌, ◌≤◌, Bool, true, false, List, [], ◌∷◌, ◌++◌, map, filter, refl, sym, ap, ◌∙◌, arith, subst, append_assoc, append-nil, Each, filter-append, RadioCopy, Carried, Packet, Mark, copies_in, marks_in, pushes, sent_before, EarlyIsUnseen}
 use Rattle.copy_exchange.proofs.Parts.{copies_in-append}
-use Rattle.copy_exchange.specs.Pushes.{marks_in, pushes, sent_before}
-use Rattle.copy_exchange.specs.Laws.{EarlyIsUnseen}
 use Rattle.copy_exchange.proofs.Whole.{closed, closed_pushes, closed_after, none_closed, marks_pushes}
 
 copies_window : (cs : List RadioCopy) (n : ℕ) → copies_in (map Packet cs ++ Mark n ∷ []) ≡ cs

@@ -1,21 +1,7 @@
 -- One more item is counted.
-use Rattle.std.proofs.Common.{◌≡◌, ◌≢◌, ℕ, ◌+◌, ◌<◌, ◌≤◌, ◌^◌, true, false, eqb, List, [], ◌∷◌, ◌++◌, length, set, get_or, refl, sym, ap, ◌∙◌, subst, ⊎_elim, arith, length-set, append-nil, append_assoc}
-use Rattle.std.specs.List.{AllByRecursion as Each}
-use Rattle.std.proofs.lemmas.Bool.Decides.{eqb_tells}
-use Rattle.std.proofs.lemmas.List.{get_or-set_same, get_or-set_other}
-use Rattle.radio_packet.specs.declared.copy.RadioCopy.{RadioCopy}
-use Rattle.copy_inbox.specs.declared.items.Carried.{Carried}
-use Rattle.copy_inbox.specs.declared.items.Carried.TheVariants.{Packet, Mark}
-use Rattle.copy_inbox.specs.declared.items.Item.{Item}
-use Rattle.copy_inbox.specs.declared.rule.TakerState.{TakerState}
-use Rattle.copy_inbox.specs.Items.{copies_of, part}
-use Rattle.copy_inbox.specs.Handles.{TakerView, after_taking, MayBeTaken, state_with}
-use Rattle.copy_inbox.proofs.Parts.{part-append, part-here, part-else}
+use Rattle.copy_exchange.proofs.Common.{◌≡◌, ◌≢◌, ℕ, ◌+◌, ◌<◌, ◌≤◌, ◌^◌, true, false, eqb, List, [], ◌∷◌, ◌++◌, length, set, get_or, refl, sym, ap, ◌∙◌, subst, ⊎_elim, arith, length-set, append-nil, append_assoc, Each, eqb_tells, get_or-set_same, get_or-set_other, RadioCopy, Carried, Packet, Mark, Item, TakerState, copies_of, part, TakerView, after_taking, MayBeTaken, state_with, part-append, part-here, part-else, Position, IsExpectedAt, IsUnexpected, AddsCopy, TakesExpected, TakesUnexpected, marks_of, AreTakersCounts, marks_in}
 use Rattle.copy_exchange.proofs.Lists.{each_join}
 use Rattle.copy_exchange.proofs.Parts.{copies-append}
-use Rattle.copy_exchange.specs.Expected.{Position, IsExpectedAt, IsUnexpected, AddsCopy, TakesExpected, TakesUnexpected}
-use Rattle.copy_exchange.specs.Marks.{marks_of, AreTakersCounts}
-use Rattle.copy_exchange.specs.Pushes.{marks_in}
 use Rattle.copy_exchange.proofs.Whole.{marks_append}
 
 -- ---- marks of the items taken, with one more item

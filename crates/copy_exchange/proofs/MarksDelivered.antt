@@ -1,11 +1,6 @@
 -- The endpoint of a worker for a whole run, window by window.
-use Rattle.std.proofs.Common.{◌≡◌, ℕ, List, map, ap}
-use Rattle.radio_packet.specs.declared.copy.RadioCopy.{RadioCopy}
-use Rattle.copy_inbox.specs.Handles.{InboxId, TakerView}
-use Rattle.copy_exchange.specs.declared.endpoint.Endpoint.{Endpoint}
-use Rattle.copy_exchange.specs.Endpoints.{IsOnInboxes, Stays, identity_of}
+use Rattle.copy_exchange.proofs.Common.{◌≡◌, ℕ, List, map, ap, RadioCopy, InboxId, TakerView, Endpoint, IsOnInboxes, Stays, identity_of, TakesExpected, position}
 use Rattle.copy_exchange.proofs.Marked.{on_inboxes_stays}
-use Rattle.copy_exchange.specs.Expected.{TakesExpected, position}
 
 -- the identities of the senders are the same after items are taken
 pub takes_stays : (owners : List ℕ) (from : ℕ) (old new : Endpoint) (copies : List RadioCopy) → TakesExpected (position owners old.worker from) old.taker new.taker copies → new.worker ≡ old.worker → new.senders ≡ old.senders → Stays old new

@@ -1,15 +1,5 @@
 -- The copies of one mote among the items of several senders.
-use Rattle.std.proofs.Common.{◌≡◌, ◌≢◌, ℕ, Bool, true, false, cond, eqb, Option, Some, None, List, [], ◌∷◌, ◌++◌, filter, refl, sym, ap, ◌∙◌, ⊎_elim}
-use Rattle.std.proofs.lemmas.Bool.Decides.{eqb_tells}
-use Rattle.std.specs.List.{cons_option}
-use Rattle.std.proofs.lemmas.List.Elements.{filter-append, filter_map-append}
-use Rattle.radio_packet.specs.declared.copy.RadioCopy.{RadioCopy}
-use Rattle.copy_inbox.specs.declared.items.Carried.{Carried}
-use Rattle.copy_inbox.specs.declared.items.Item.{Item}
-use Rattle.copy_inbox.specs.Items.{copies_of, carried_copy, part}
-use Rattle.copy_inbox.proofs.Parts.{part-here, part-else}
-use Rattle.window_laws.specs.Windows.{is_from_sender}
-use Rattle.copy_exchange.specs.Takers.{copies_in}
+use Rattle.copy_exchange.proofs.Common.{◌≡◌, ◌≢◌, ℕ, Bool, true, false, cond, eqb, Option, Some, None, List, [], ◌∷◌, ◌++◌, filter, refl, sym, ap, ◌∙◌, ⊎_elim, eqb_tells, cons_option, filter-append, filter_map-append, RadioCopy, Carried, Item, copies_of, carried_copy, part, part-here, part-else, is_from_sender, copies_in}
 
 -- the copies of mote s
 abbrev pub from : ℕ → List RadioCopy → List RadioCopy

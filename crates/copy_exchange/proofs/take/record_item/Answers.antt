@@ -1,4 +1,4 @@
-use Rattle.std.proofs.Common.{arith}
+use Rattle.copy_exchange.proofs.Common.{arith}
 use Rattle.copy_exchange.proofs.MarksCounted.{count_fits, counts_packet, counts_mark}
 use Rattle.copy_exchange.proofs.take.record_item.Goals as goal
 

@@ -1,11 +1,7 @@
-use Rattle.std.proofs.Common.{◌≡◌, List, Result, Ok, Err, sym, ◌∙◌, subst}
+use Rattle.copy_exchange.proofs.Common.{◌≡◌, List, Result, Ok, Err, sym, ◌∙◌, subst, RadioCopy, TakerView, position_of, Refuses, TakesExpected, AreTakersCounts}
 use Rattle.std.specs.Result.{IfErr, IsErrAnd}
-use Rattle.radio_packet.specs.declared.copy.RadioCopy.{RadioCopy}
-use Rattle.copy_inbox.specs.Handles.{TakerView}
 use Rattle.copy_exchange.specs.declared.take.MarkError.{MarkError}
 use Rattle.copy_exchange.specs.declared.take.MarkError.TheVariants.{Stopped, Unexpected}
-use Rattle.copy_exchange.specs.Expected.{position_of, Refuses, TakesExpected}
-use Rattle.copy_exchange.specs.Marks.{AreTakersCounts}
 use Rattle.copy_exchange.proofs.MarksCounted.{takes_none, takes_more, takes_unexpected}
 use Rattle.copy_exchange.proofs.take.MarkTaker.take_window.Goals as goal
 
