@@ -29,8 +29,7 @@ from motesim.command import command
 from project.differential.host_runs import HostRuns, compilers
 from motesim.faults import Fault
 from motesim.words import words_of
-from motesim.runner.programs import program_path
-from motesim.runner.programs import TOP
+from motesim.runner.programs import TOP, program_path
 
 # Each scenario with the arguments of its script. The second one is the number of moments.
 SCENARIOS = {'beacons': [31, 2000, 10], 'polls': [500, 200], 'broadcasts': [8, 20000], 'timers': [64, 200000],

@@ -12,7 +12,6 @@ Number = float | None
 Row = dict[str, Any]
 FATES = ('received', 'lost', 'overflowed', 'collided', 'halted', 'left')
 OF_MOTE = {'sent': 'send', 'posted': 'post', 'taken': 'take', 'dropped': 'drop', 'refused': 'full', 'prints': 'print'}
-SENT = ('sent', 'lost', 'left')
 NEVER = 1 << 40
 
 
@@ -143,50 +142,6 @@ class PageMeasures:
         return [{'from': one, 'to': other, 'delay': self.delay(one, other),
                  **self.fates(copy for copy in self.copies if (copy.sender, copy.to) == (one, other))}
                 for one in self.motes for other in self.motes if self.hears(one, other)]
-
-    # -- tools/summary --by
-
-    def waits(self) -> list[tuple[int, int, int]]:
-        """For each accepted event: its mote, the moment of its post, and the moment at which it left the queue."""
-        found = []
-        for trace in self.traces:
-            gone: dict[str, int] = {}
-            for line in trace:
-                if line.words[0] in ('take', 'drop'):
-                    gone.setdefault(line.words[1], line.at)
-            found += [(line.mote, line.at, gone.get(line.words[1], NEVER)) for line in trace if line.words[0] == 'post']
-        return found
-
-    def longest(self, mote: int, first: int, last: int) -> int:
-        """The greatest length of the event queue of a mote, in these moments."""
-        length, greatest, seen, within = 0, 0, set[str](), False
-        for line in self.traces[mote]:
-            if line.at > last:
-                break
-            if line.at >= first and not within:
-                greatest, within = length, True
-            length += line.words[0] == 'post'
-            if line.words[0] in ('take', 'drop') and line.words[1] not in seen:
-                seen.add(line.words[1])
-                length -= 1
-            if within:
-                greatest = max(greatest, length)
-        return greatest if within else length
-
-    def interval(self, first: int, last: int) -> Row:
-        lines = Counter(line.words[0] for trace in self.traces for line in trace if first <= line.at <= last)
-        counts = Counter(copy.fate for copy in self.copies
-                         if first <= (copy.at if copy.fate in SENT else copy.there) <= last)
-        due = sum(counts[fate] for fate in FATES if fate != 'left')
-        waits = [gone - at for _, at, gone in self.waits() if first <= gone <= last]
-        return {'from': first, 'to': last, **{name: lines[kind] for name, kind in OF_MOTE.items()},
-                **{fate: counts[fate] for fate in FATES}, 'ratio': share(counts['received'], due),
-                'delay': mean([copy.there - copy.at for copy in self.copies
-                               if copy.fate == 'received' and first <= copy.there <= last]),
-                'queue': max(self.longest(mote, first, last) for mote in self.motes), 'waited': mean(waits)}
-
-    def parts(self, by: int) -> list[tuple[int, int]]:
-        return [(first, first + by - 1) for first in range(0, self.end + 1, by)]
 
     # -- tools/summary --flow
 

@@ -4,7 +4,7 @@ from __future__ import annotations
 import random
 from dataclasses import replace
 
-from page_judge import LAST, Deed, Does, Event, Or, Order, Sentence, Things, Times, Value, When
+from page_judge import Deed, Does, Event, Or, Order, Sentence, Things, Times, Value, When
 
 END, SIDE, PROCESSES = 24, 10, ('a', 'b')
 VERBS = {'print': ('prints', 'printing'), 'send': ('sends', 'sending'), 'receive': ('receives', 'receiving'),
@@ -60,6 +60,7 @@ def program_of(chance: random.Random, names: list[str], motes: int) -> str:
         value, others = chance.choice(('self', 'data', 'n',
                                        '%d' % (1 << chance.randrange(motes)))), chance.choice(names)
         steps = ('print %s;' % value, 'print %d;' % chance.randint(0, 4), 'send %s;' % value, 'n = (n + 1);', 'yield;',
+                 'while (n < 9) { n = (n + 1); send n; }',
                  'set t %d; yield_until fired(t);' % chance.randint(1, 9), 'yield_until is(packet); print data;',
                  'post %s note %d;' % (others, chance.randint(0, 2)), 'kill %s;' % others, 'start %s;' % others,
                  'if (self == %d) { send %s; }' % (chance.randrange(motes), value))

@@ -1,15 +1,11 @@
 """The scenarios of bench/, and the output of tools/dev/bench about runs. The program is a stand-in."""
 import contextlib
 import io
-import shutil
-import subprocess
 import sys
 import unittest
-from pathlib import Path
 from unittest import mock
 
-from here import TOP, Room
-from motesim.faults import Fault
+from here import Room
 from motesim.notation.reader import find_fault
 from motesim.scenario import Scenario
 from project import bench
@@ -25,25 +21,9 @@ class Scenarios(unittest.TestCase):
             for text in found.programs.values():
                 self.assertIsNone(find_fault(text), name)
 
-    def test_other_words_are_told(self) -> None:
-        for name in bench.SCENARIOS:
-            done = subprocess.run([str(TOP / 'bench' / name), 'x'], capture_output=True, text=True)
-            self.assertEqual((done.returncode, done.stdout), (1, ''))
-            self.assertIn('bench/%s' % name, done.stderr)
-
     def test_a_part_has_fewer_moments(self) -> None:
         self.assertIn(b'end = 200000\n', bench.generated('timers'))
         self.assertIn(b'end = 20000\n', bench.generated('timers', 10))
-
-
-class Host(unittest.TestCase):
-    @unittest.skipUnless(shutil.which('valgrind'), 'there is no Valgrind')
-    def test_instructions_are_counted(self) -> None:
-        count, report = bench.instructions_of(['/bin/echo', 'x'])
-        self.assertGreater(count, 1000)
-        self.assertEqual(report, b'x\n')
-        with self.assertRaisesRegex(Fault, '/bin/false ended with status 1'):
-            bench.instructions_of(['/bin/false'])
 
 
 class Ratios(unittest.TestCase):
@@ -75,6 +55,3 @@ class Command(Room):
         said, code = self.said('marks', 'timers')
         self.assertEqual(code, 1)
         self.assertIn('THE REPORTS DIFFER', said)
-
-    def test_another_name_is_told(self) -> None:
-        self.assertIn('there is no scenario x', self.said('none', 'x')[0])

@@ -54,19 +54,6 @@ class Reading(unittest.TestCase):
         # (not all changes make the text a wrong one)
         self.assertGreater(kept, 100)
 
-    def test_names_with_digits_stay_apart(self) -> None:
-        text = SMALL.replace('4 full all msg', '4 full a1 a1').replace('4 take 0 talk', '4 take 0 a11').replace(
-            '4 print talk', '4 print a_1').replace('0 start busy', '0 start b').replace('9 drop 1 busy', '9 drop 1 b2')
-        self.assertTrue(self.check(text.encode()))
-        self.assertFalse(self.check(text.replace('a_1', 'a_1' + 'x' * 14).encode()))
-
-    def test_more_names_than_a_byte_has_numbers(self) -> None:
-        for count in 255, 256, 300:
-            rows = ['%d start %s%s' % (at, chr(97 + at % 26), chr(97 + at // 26)) for at in range(count)]
-            rows = [row.replace('start is', 'start xis').replace('start if', 'start xif') for row in rows]
-            text = '\n'.join(['mote 0 p', *rows, 'medium', 'left 0', ''])
-            self.assertTrue(self.check(text.encode()), count)
-
     def test_numbers_at_their_limits(self) -> None:
         for number, is_one in ((2 ** 62 - 1, True), (2 ** 62, False), (2 ** 64 - 1, False), (10 ** 18, True)):
             for form in '7 deaf 0 %d', '7 lost 0 %d':

@@ -22,7 +22,6 @@ HEAVY = ('motesim.report', 'motesim.judge', 'motesim.runner', 'motesim.scenario'
 
 # Prints the help of each command, and what it has imported, in a process of its own.
 HELPS = text_of('helps.py.txt')
-NO_NAME = '-o needs the name of a file or a folder, not -'
 
 
 class Commands(unittest.TestCase):
@@ -41,23 +40,6 @@ class Commands(unittest.TestCase):
         for name, imported in zip(COMMANDS, helps):
             self.assertFalse(set(HEAVY) & set(imported.split()), name)
 
-    def test_an_error_in_an_option_is_one_line(self) -> None:
-        for words, said in ((('plot', 'a.csv', '--confidence', 'x'), "argument --confidence: invalid float value: 'x'"),
-                            (('plot', 'a.csv', '--measure', 'x', '--against', 'y', '--measure', 'z'),
-                             '--measure is given twice: give it only once'),
-                            (('search', 'a.toml', '--at-most', 'x'), "argument --at-most: invalid int value: 'x'"),
-                            (('sweep', 'a.toml', '--jobs', '0'),
-                             'argument --jobs: 0 is not a whole number of at least 1'),
-                            (('scenario', 'a.plan.toml', '-o', '-'), NO_NAME),
-                            (('grade', 'a.toml', 'b.toml', '-o', '-'), NO_NAME),
-                            (('log', 'a.toml', '--motes', '3'),
-                             'unrecognized arguments: --motes; did you mean --mote?'),
-                            (('summary', 'a', 'b', 'c'), 'unrecognized arguments: b c'),
-                            (('summary',), 'the following arguments are required: FILE')):
-            done = call(*words)
-            line = '%s: %s (--help lists the options)\n' % (words[0], said)
-            self.assertEqual((done.returncode, done.stdout, done.stderr), (2, '', line))
-
     def test_the_same_words_mean_the_same_in_all_tools(self) -> None:
         need_built(PROGRAM, CHECKER)
         net, holds, broken = str(TOP / 'examples/flooding.toml'), 'mote 6 prints flood 1', 'mote 6 halts'
@@ -73,7 +55,9 @@ class Commands(unittest.TestCase):
                                     (('expect', net, net, '--expect', holds), 2,
                                      'in a file or in --expect, not in both'),
                                     (('sweep', 'a.toml', '--vary', 'a=1'), 2, '--vary; did you mean --param?'),
-                                    (('search', net, '--bytes', '9'), 2, '--bytes; did you mean --report?')):
+                                    (('search', net, '--bytes', '9'), 2, '--bytes; did you mean --report?'),
+                                    (('plot', 'a.csv', '--measure', 'x', '--measure', 'z'), 2, 'is given twice'),
+                                    (('grade', 'a.toml', 'b.toml', '-o', '-'), 2, '-o needs the name of a file')):
             with self.subTest(words):
                 done = call(*words)
                 self.assertEqual(done.returncode, status, done)

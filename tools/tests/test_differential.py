@@ -1,16 +1,12 @@
-"""The comparison of motesim with the host: what its scenarios reach, and that it notices what differs."""
-import itertools
+"""The comparison of motesim with the host: what its scenarios reach, and that it notices what differs.
+test_contiki_host.py has the mutants of the host."""
 import shutil
-import tomllib
 import unittest
 from collections import Counter
-from collections.abc import Iterator
-from functools import cache
-from pathlib import Path
 
 from here import TOOLS, TOP, Room
 from project.differential import compare as differential
-from project.differential.coverage import LIMITS, Coverage
+from project.differential.coverage import Coverage
 from project.differential.host_runs import HostFault, HostRuns, compilers
 from project.differential.random_scenario import random_scenario
 from motesim.notation.reader import find_fault
@@ -20,11 +16,6 @@ from motesim.scenario import Scenario
 from skips import long, need_built
 
 HOST = TOOLS / 'contiki_host'
-MUTANTS = Path(__file__).resolve().parent / 'contiki_host/mutants.toml'
-# How many random scenarios are tried on a mutant, and how many mutants these have to notice. The gate tries 300;
-# more of them notice more.
-MOST_SCENARIOS = 80
-LEAST_NOTICED = 12
 
 
 def need_compiler(test: unittest.TestCase) -> None:
@@ -32,13 +23,6 @@ def need_compiler(test: unittest.TestCase) -> None:
         compilers()
     except HostFault as fault:
         test.skipTest(str(fault))
-
-
-@cache
-def answered(seed: str) -> tuple[bytes, bytes]:
-    """A random scenario, and the report that motesim writes."""
-    scenario = random_scenario(seed)
-    return scenario, Runner(program=program_path()).report(scenario)
 
 
 class Generator(unittest.TestCase):
@@ -58,64 +42,6 @@ class Generator(unittest.TestCase):
     def test_a_seed_has_one_scenario(self) -> None:
         self.assertEqual(random_scenario('abc-1'), random_scenario('abc-1'))
         self.assertNotEqual(random_scenario('abc-1'), random_scenario('abc-2'))
-
-    def test_the_limits_are_met(self) -> None:
-        """For each limit there is a program that has exactly as many of the thing as it may."""
-        found: dict[str, int] = {}
-        for seed in itertools.count():
-            reached: Counter[str] = Counter()
-            scenario = random_scenario(seed, reached)
-            for limit in LIMITS:
-                if reached['limit %s' % limit] and limit not in found:
-                    text = next(iter(Scenario.parse(scenario).programs.values()))
-                    found[limit] = {'events': text.count('event '), 'semaphores': text.count('semaphore '),
-                                    'processes': text.count('code '),
-                                    'timers': text.count('  etimer ') + text.count('  ctimer '),
-                                    'variables': max(it.count('  var ') for it in text.split('code ')),
-                                    'threads': max(it.count('  thread ') for it in text.split('code '))}.get(limit, 0)
-            if len(found) == len(LIMITS):
-                break
-        self.assertEqual({it: found[it] for it in LIMITS if found[it]}, {
-            'events': 117, 'semaphores': 64, 'processes': 64, 'variables': 64, 'timers': 64, 'threads': 7})
-
-
-@long
-class Mutants(Room):
-    """Edits of the host that break a rule are noticed by some random scenario."""
-
-    def setUp(self) -> None:
-        super().setUp()
-        need_built()
-        need_compiler(self)
-
-    def mutant(self, number: int, edit: dict[str, str]) -> HostRuns:
-        """The host with one edit."""
-        source = self.room / ('source_%d' % number)
-        shutil.copytree(HOST, source)
-        path = source / edit['file']
-        text = path.read_text('utf-8')
-        self.assertEqual(text.count(edit['from']), 1, edit['rule'])
-        path.write_text(text.replace(edit['from'], edit['to']), 'utf-8')
-        return HostRuns(self.room / ('built_%d' % number), source, is_optimised=False)
-
-    def noticed(self, host: HostRuns) -> Iterator[int]:
-        """The seeds of scenarios whose reports differ."""
-        for seed in range(MOST_SCENARIOS):
-            # (scenarios at a limit are long)
-            scenario, report = answered('m%dx' % seed)
-            try:
-                if host.report(scenario) != report:
-                    yield seed
-            except HostFault:
-                yield seed
-
-    def test_most_are_noticed(self) -> None:
-        edits = tomllib.loads(MUTANTS.read_text('utf-8'))['mutant']
-        noticed = (edit['rule'] for number, edit in enumerate(edits)
-                   if next(self.noticed(self.mutant(number, edit)), None) is not None)
-        # (more of them would only need more time)
-        found = list(itertools.islice(noticed, LEAST_NOTICED))
-        self.assertEqual(len(found), LEAST_NOTICED, found)
 
 
 @long

@@ -2,17 +2,14 @@
 from __future__ import annotations
 
 import itertools
-import operator
 import re
 import unittest
 from array import array
 from functools import cache
 from pathlib import Path
 from statistics import correlation, fmean
-from typing import NamedTuple
 
 from here import TOP
-from motesim.analysis.estimates import mean_by_t
 from motesim.plan.files import Files
 from motesim.plan.plan import Plan
 from motesim.report import Report
@@ -29,10 +26,7 @@ DRAWING = {'examples/cookbook/README.md': 'dice', 'examples/studies/density.mote
 STEP = '((dice * 25173) + 13849)'
 # The pattern's second variable, and the sum that it compares with the limit.
 SECOND, SUM = '((luck * 225) % 239)', '(dice + (luck * 257))'
-# How many receivers and packets a run has, and the limit of the state below which a packet is lost.
-CONFIGURATIONS = [(motes, packets, limit) for motes, packets in (
-    (4, 25), (8, 100), (20, 50), (50, 20), (99, 100), (8, 1_000)) for limit in (3_277, 6_554, 13_107, 32_768)]
-SEEDS, SEEDS_OF_SWEEP = 250, 10
+SEEDS = 250
 
 
 def mixing_of(file: str) -> list[str]:
@@ -91,32 +85,13 @@ class Cycle:
         return self.places[dice]
 
 
-class Measured(NamedTuple):
-    """Losses of a configuration against those by chance.
-
-    spread, within  the variance of a run's losses over the seeds, and of the receivers that lose a broadcast, each as
-                    a part of a binomial distribution's
-    lag             the correlation between the losses of consecutive seeds
-    covers          the part of the sweeps of ten seeds whose interval of 95 % by Student's t contains the true mean
-    """
-    spread: float
-    within: float
-    lag: float
-    covers: float
-
-
-def measured(cycle: Cycle, motes: int, packets: int, limit: int) -> Measured:
-    """What a configuration has over all seeds."""
-    part, lost, sums = limit / WORD, lost_below(limit), lost_before(limit)
+def spread(cycle: Cycle, motes: int, packets: int, limit: int) -> float:
+    """The variance of a run's losses over the seeds, as a part of a binomial distribution's."""
+    part, sums = limit / WORD, lost_before(limit)
     places = [[cycle.first(mote, seed) for mote in range(1, motes + 1)] for seed in range(1, SEEDS + 1)]
     runs = [sum(sums[it + 1 + packets] - sums[it + 1] for it in its) for its in places]
-    true, variance = motes * packets * part, motes * packets * part * (1 - part)
-    gaps = [sum(lost[it + packet] for it in its) - motes * part for its in places
-            for packet in range(1, min(packets, 40) + 1)]
-    sweeps = [mean_by_t(runs[at:at + SEEDS_OF_SWEEP], 0.95) for at in range(0, SEEDS, SEEDS_OF_SWEEP)]
-    return Measured(fmean((it - true) ** 2 for it in runs) / variance,
-                    fmean(it * it for it in gaps) / (motes * part * (1 - part)), correlation(runs[:-1], runs[1:]),
-                    fmean((it.low or 0) <= true <= (it.high or 0) for it in sweeps))
+    true = motes * packets * part
+    return fmean((it - true) ** 2 for it in runs) / (true * (1 - part))
 
 
 class Programs(unittest.TestCase):
@@ -162,12 +137,6 @@ class ByChance(unittest.TestCase):
         for limit in 3_277, 6_554, 32_768:
             self.assertEqual(sum(lost_below(limit)[:len(draws())]), limit * len(LUCK))
 
-    def test_pairs_of_losses_are_as_frequent_as_by_chance(self) -> None:
-        lost, part = lost_below(6_554), 6_554 / WORD
-        for apart in range(1, 9):
-            both = sum(map(operator.and_, lost[:len(draws())], lost[apart:])) / len(draws())
-            self.assertAlmostEqual(both / part ** 2, 1, delta=0.001)
-
     def test_series_of_losses_are_as_frequent_as_by_chance(self) -> None:
         # (the page has the first limit; a cycle has about 8 million * part ** k series of k losses)
         for limit in 655, 1_311, 1_966, 3_277, 6_554, 9_830, 19_661:
@@ -179,24 +148,14 @@ class ByChance(unittest.TestCase):
                     if by_chance >= least:
                         self.assertAlmostEqual(found / by_chance, 1, delta=most, msg=(limit, length))
 
-    def test_motes_and_runs_lose_as_by_chance(self) -> None:
-        # (250 seeds of true chance have a variance of 1 +- 0.18 in 19 of 20 configurations, and a lag of 0 +- 0.13)
-        found = [measured(self.cycle, *it) for it in CONFIGURATIONS]
-        for it, configuration in zip(found, CONFIGURATIONS):
-            with self.subTest(configuration=configuration):
-                self.assertTrue(0.82 < it.spread < 1.18 and 0.95 < it.within < 1.05, it)
-                self.assertTrue(-0.13 < it.lag < 0.13 and it.covers >= 0.87, it)
-        for name, least, most in (('spread', 0.97, 1.03), ('within', 0.98, 1.03), ('lag', -0.03, 0.03),
-                                  ('covers', 0.94, 0.98)):
-            mean = fmean(getattr(it, name) for it in found)
-            self.assertTrue(least <= mean <= most, (name, mean))
-
-    def test_without_the_mixing_they_lose_in_step(self) -> None:
-        # (in each draw the values of successive motes differ by the same number: this is what the mixing is for)
-        cycle = Cycle(mixing_of('examples/cookbook/README.md')[:1])
-        few, many = measured(cycle, 50, 20, 13_107), measured(cycle, 99, 100, 32_768)
-        self.assertTrue(few.spread < 0.2 and few.within < 0.2, few)
-        self.assertTrue(many.spread > 1.8 and many.within > 1.5 and many.lag > 0.6 and many.covers < 0.65, many)
+    def test_runs_lose_as_by_chance_and_without_the_mixing_in_step(self) -> None:
+        # (250 seeds of true chance have a variance of 1 +- 0.18 in 19 of 20 configurations; without the mixing, in each
+        # draw the values of successive motes differ by the same number)
+        page = mixing_of('examples/cookbook/README.md')
+        for configuration, is_less in (((50, 20, 13_107), True), ((99, 100, 32_768), False)):
+            self.assertTrue(0.82 < spread(self.cycle, *configuration) < 1.18)
+            in_step = spread(Cycle(page[:1]), *configuration)
+            self.assertTrue(in_step < 0.2 if is_less else in_step > 1.8, in_step)
 
     def test_the_program_draws_the_same(self) -> None:
         need_built()

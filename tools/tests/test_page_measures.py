@@ -16,59 +16,29 @@ from motesim.judge.names import names_of
 from motesim.judge.verdicts import decided
 from motesim.scenario import Scenario
 from motesim.summary.counts import summary
-from motesim.summary.flows import flow_rows, flow_rows_by
-from motesim.report import Report
-from motesim.summary.series import Series
+from motesim.summary.flows import flow_rows
 from page_measures import NEVER, Lines, PageMeasures
+from page_sentences import END, running_net_of
 from skips import need_built
 
 NETS, SENTENCES = range(int(os.environ.get('PAGE_MEASURES_NETS', '30'))), 3
 VERBS = {'print': ('prints', 'print'), 'send': ('sends', 'send'), 'recv': ('receives', 'receive')}
-VALUES = '((self * 256) + n)', 'n', '(n % 3)', '(self + n)', '7'
 KINDS: dict[str, Callable[[PageMeasures, Lines], int | None]] = {
     'holds': PageMeasures.holds, 'moment': PageMeasures.moment, 'last': PageMeasures.last, 'count': PageMeasures.count,
     'motes': PageMeasures.reaching}
+# What half of the nets have instead.
+CHANGES = ('collide = true', 'collide = false'), ('base = 1', 'base = 9'), ('[programs]', '[queue]\np = 1\n[programs]')
 # Flows: source and sink, and the range of values.
-FLOWS = ('', 'hear', ''), ('say', 'hear', ''), ('say', 'hear', ' 1 to 99'), ('', 'note', ''), ('hear', 'hear', '')
+FLOWS = ('', 'a', ''), ('a', 'b', ''), ('a', 'b', ' 1 to 99'), ('', 'b', ''), ('a', 'a', '')
 
 
-def program(chance: random.Random, motes: int) -> str:
-    """A process `say` sends, `hear` prints and sends again, and `note` prints what they post."""
-    def maybe(share: float, text: str) -> str:
-        return text if chance.random() < share else ''
-
-    def some(most: int) -> int:
-        return chance.randint(1, most)
-    value = chance.choice(VALUES)
-    says = [maybe(.6, 'print %s;' % value), maybe(.2, 'print %s;' % value), 'send %s;' % value,
-            maybe(.2, 'send (%s + 1);' % value), maybe(.2, 'post note msg n;' * some(5)), maybe(.2, 'broadcast com n;'),
-            maybe(.2, 'if ((self == %d) && (n == %d)) { while 1 { n = n; } }' % (chance.randrange(motes), some(4)))]
-    hears = [maybe(.8, 'print data;'), maybe(.2, 'print data;'), maybe(.2, 'post note msg data;'),
-             maybe(.4, 'if (data > newest) { newest = data; send data; }'), maybe(.1, 'broadcast msg data;'),
-             maybe(.2, 'if (data < 1000) { send (1000 + data); }'), maybe(.1, 'if (data == 3) { exit; }')]
-    return '''process say, hear, note; autostart %s; %s
-code say { var n = 0; etimer t; body { if (self %s) { set t (1 + (self %% %d)); yield_until fired(t);
-  while (n < %d) { n = (n + 1); %s set t %d; yield_until fired(t); } } } }
-code hear { var newest = 0; body { while 1 { yield; if is(packet) { %s } } } }
-code note { body { while 1 { yield; if is(msg) { %s } } } }''' % (
-        chance.choice(('say, hear, note', 'hear, note, say', 'say, hear')), maybe(.9, 'receiver hear;'),
-        chance.choice(('== 0', '< 2', '>= 0')), some(3), some(6), ' '.join(says), some(9), ' '.join(hears),
-        chance.choice(('print data;', 'print data; if (data == 2) { exit; }', 'print now;')))
-
-
-def net_of(chance: random.Random) -> tuple[str, int, int]:
-    """A scenario, its number of motes, and its end."""
-    motes, end = chance.randint(2, 9), chance.choice((12, 25, 40, 60))
-    places = chance.sample([(x, y) for x in range(0, 25, 3) for y in range(0, 13, 3)], motes)
-    pairs = [(s, r) for s in range(motes) for r in range(motes) if s != r]
-    losses = chance.sample(pairs, chance.choice((0, len(pairs) // 3, len(pairs))))
-    text = ['version = 2', 'end = %d' % end, '[medium]', 'range = %d' % chance.choice((6, 9, 12, 30)),
-            'base = %d' % chance.randint(1, 4), 'per = %d' % chance.choice((5, 20, 100)),
-            'collide = %s' % chance.choice(('true', 'false')), '[programs]', "p = '''%s'''" % program(chance, motes)]
-    text += ['[queue]', 'p = %d' % chance.randint(1, 4)] * (chance.random() < .3)
-    text += ['[[mote]]\nx = %d\ny = %d\nprogram = "p"' % place for place in places]
-    text += ['[[loss]]\nfrom = %d\nto = %d\nevery = %d' % (*pair, chance.choice((1, 2, 3))) for pair in losses]
-    return '\n'.join(text), motes, end
+def net_of(chance: random.Random) -> tuple[str, int]:
+    """A scenario, and its number of motes."""
+    text, motes = running_net_of(chance)
+    for old, new in CHANGES:
+        text = text.replace(old, new) if chance.random() < .5 else text
+    # (a claim about several motes needs one number for a process)
+    return text.replace('program = "q"', 'program = "p"'), motes
 
 
 def motes_of(chance: random.Random, motes: int, alone: bool) -> tuple[str, str, tuple[int, ...], bool]:
@@ -81,14 +51,14 @@ def motes_of(chance: random.Random, motes: int, alone: bool) -> tuple[str, str, 
         ('motes %d to %d together' % (first, motes - 1), 'together', some, False)][:4 if alone else 5])
 
 
-def lines_of(chance: random.Random, motes: int, end: int, *, process: str = '', least: bool = False,
+def lines_of(chance: random.Random, motes: int, *, process: str = '', least: bool = False,
              alone: bool = False) -> tuple[str, Lines]:
     """A sentence with its meaning."""
     text, how, its, singular = motes_of(chance, motes, alone)
     kind = 'print' if process else chance.choice(('print', 'print', 'send', 'recv'))
-    words = [kind] + [process or chance.choice(('say', 'hear', 'note'))] * (kind == 'print')
+    words = [kind] + [process or chance.choice('ab')] * (kind == 'print')
     words += [str(chance.choice((1, 2, 7)))] * (not process and chance.random() < .4)
-    first = chance.randint(0, end)
+    first = chance.randint(0, END)
     when, begin, until = chance.choice([('', 0, NEVER)] * 4 + [
         (' by %d' % first, 0, first), (' after %d' % first, first + 1, NEVER), (' before %d' % (first + 1), 0, first),
         (' from %d to %d' % (first // 2, first), first // 2, first)])
@@ -117,16 +87,13 @@ class Numbers(unittest.TestCase):
         seen: Counter[str] = Counter()
         for seed in NETS:
             chance = random.Random(seed)
-            text, _, end = net_of(chance)
-            run, by = motesim.run(text.encode()), chance.choice((1, 3, 7, 10, 200))
-            report = run.report.text()
-            page, (motes, net, links) = PageMeasures(text, report), summary(run)
+            text, _ = net_of(chance)
+            run = motesim.run(text.encode())
+            page, (motes, net, links) = PageMeasures(text, run.report.text()), summary(run)
             with self.subTest(seed=seed):
                 of_motes, of_net = page.summary()
                 self.assert_rows([*motes, net], [*of_motes, of_net], 'motes')
                 self.assert_rows(links, page.links(), 'links')
-                self.assert_rows(list(Series(Report.parse(report), by, end).rows()),
-                                 [page.interval(*part) for part in page.parts(by)], 'over time')
                 for source, sink, values in FLOWS:
                     words = 'print %s -> ' % source * bool(source) + 'print %s%s' % (sink, values)
                     found = page.messages(source, sink, *((1, 99) if values else ()))
@@ -135,17 +102,13 @@ class Numbers(unittest.TestCase):
                     self.assertEqual([row['origin'] for row in rows], [*origins, 'net'])
                     its = [[it for it in found if it[0] == origin] for origin in origins]
                     self.assert_rows(rows, [*map(page.flow_row, its), page.flow_row(found)], words)
-                    its = [[it for it in found if first <= it[1] <= last] for first, last in page.parts(by)]
-                    rows = [{**page.flow_row(one), 'from': first, 'to': last}
-                            for one, (first, last) in zip(its, page.parts(by))]
-                    self.assert_rows(flow_rows_by(run.report, run.scenario, words, by), rows, words)
             seen.update(name for name, value in net.items() if value)
         self.assertGreater(min(seen[name] for name in net.keys() - {'program'}), 0, seen)
 
     def test_the_measures_of_a_sweep_are_those_of_the_page(self) -> None:
         for seed in NETS:
             chance = random.Random(seed)
-            text, motes, end = net_of(chance)
+            text, motes = net_of(chance)
             run = motesim.run(text.encode())
             page, known = PageMeasures(text, run.report.text()), Scenario.parse(text)
             names = names_of(known)
@@ -153,12 +116,12 @@ class Numbers(unittest.TestCase):
             wanted += [('%s of mote 1' % name, value) for name, value in page.summary()[0][1].items()]
             for _ in range(SENTENCES):
                 for kind, of in KINDS.items():
-                    words, its = lines_of(chance, motes, end, least=kind in ('holds', 'moment', 'motes'),
+                    words, its = lines_of(chance, motes, least=kind in ('holds', 'moment', 'motes'),
                                           alone=kind == 'motes')
                     wanted.append(('%s: %s' % (kind, words), of(page, its)))
-                (one, begin), (other, then) = (lines_of(chance, motes, end, least=True) for _ in '12')
+                (one, begin), (other, then) = (lines_of(chance, motes, least=True) for _ in '12')
                 wanted.append(('delay: %s -> %s' % (one, other), page.delay_between(begin, then)))
-                (one, begin), (other, then) = (lines_of(chance, motes, end, process=its) for its in ('say', 'hear'))
+                (one, begin), (other, then) = (lines_of(chance, motes, process=its) for its in 'ab')
                 wanted.append(('delivery: %s -> %s' % (one, other), page.delivery(begin, then)))
             asked = [it for words, _ in wanted if (it := sentence_of(words, names))]
             bench = Bench(run, {}, asked, lambda its: decided(Claims(known), text, its))

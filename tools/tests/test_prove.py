@@ -93,10 +93,3 @@ class Proof(Tree):
         done = self.run_it(self.link, TOP / 'examples/two_motes.toml')
         self.assertEqual((done.returncode, done.stderr), (0, ''))
         self.assertIn('built already', self.run_it(self.top / 'prove').stderr)
-
-    def test_what_is_not_proved_is_shown(self) -> None:
-        self.source.write_text('fn main() {\n    let a: [u8; 1] = [0];\n    let i = 3;\n    let b = a[i];\n}\n')
-        done = self.run_it(self.top / 'prove')
-        self.assertEqual(done.returncode, 2)
-        self.assertIn('motesim is not proved', done.stderr)
-        self.assertEqual(self.kept(), [])

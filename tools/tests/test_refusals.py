@@ -10,8 +10,6 @@ TOOLS: dict[str, list[str]] = {
     'compare': ['{}'], 'expect': ['--expect', 'no mote halts'], 'export': ['--to', 'csv', '-o', 'a'], 'log': [],
     'motecheck': ['claims'], 'search': ['--expect', 'no mote halts'], 'shrink': ['no mote halts'], 'summary': [],
     'timeline': ['-o', 'a.html'], 'why': ['no mote halts']}
-# (a search reads plans, too)
-READ = {('search', 'a.plan.toml')}
 # Words behind the name of a scenario, the tools that take such words, and what each of them says.
 WORDS = [
     (['--nothing'], [it for it in TOOLS if it != 'export'],
@@ -41,11 +39,9 @@ class Refusals(Room):
                 whole = text.replace('SCENARIO', SCENARIO).replace('REST', REST)
                 (self.room / name).write_bytes(whole.encode('latin-1'))
             for tool, more in TOOLS.items():
-                if (tool, name) not in READ:
-                    done = call(tool, name, *(it.format(name) for it in more), cwd=self.room)
-                    with self.subTest(tool=tool, name=name):
-                        self.assertEqual((done.returncode, done.stdout, done.stderr),
-                                         (2, '', '%s: %s\n' % (tool, said)))
+                done = call(tool, name, *(it.format(name) for it in more), cwd=self.room)
+                with self.subTest(tool=tool, name=name):
+                    self.assertEqual((done.returncode, done.stdout, done.stderr), (2, '', '%s: %s\n' % (tool, said)))
 
     def test_wrong_words_have_one_message_in_all_tools(self) -> None:
         need_built()

@@ -264,13 +264,10 @@ def run_each(work: Callable[[Any], Any], items: Iterable[Any], processes: int,
 
 class Batches(Programs):
     def test_each_item_has_its_result(self) -> None:
-        for processes in 1, 3:
-            found = list(run_each(squared, range(200), processes))
+        for processes, count in (1, 200), (3, 200), (2, 0):
+            found = list(run_each(squared, range(count), processes))
             self.assertEqual(sorted((it.item, it.result, it.fault) for it in found),
-                             [(n, n * n, '') for n in range(200)])
-
-    def test_no_items(self) -> None:
-        self.assertEqual(list(run_each(squared, [], 2)), [])
+                             [(n, n * n, '') for n in range(count)])
 
     def test_whatever_an_item_raises_is_its_fault(self) -> None:
         def work(item: int) -> object:

@@ -9,7 +9,7 @@ from typing import Any
 
 import pytest
 from claim_judge import deciding_by
-from here import HOLDS, SECONDS, TOOLS, TOP, call, text_of
+from here import HOLDS, SECONDS, TOOLS, TOP, text_of
 from motesim.faults import Fault
 from motesim.judge.finder import Finder
 from motesim.judge.names import Names, names_of

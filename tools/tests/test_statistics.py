@@ -47,12 +47,6 @@ class Estimates(unittest.TestCase):
             found = share_by_wilson([1] * ones + [0] * (10 - ones), 0.95)
             self.assertEqual((round(found.low or 0, 3), round(found.high or 0, 3)), (low, high))
 
-    def test_wilsons_score_of_none_and_of_all_runs_ends_exactly_at_0_and_1(self) -> None:
-        for runs in range(1, 50):
-            for confidence in 0.5, 0.9, 0.95, 0.999:
-                none, every = share_by_wilson([0] * runs, confidence), share_by_wilson([1] * runs, confidence)
-                self.assertEqual((none.low, every.high), (0.0, 1.0))
-
     def test_quartiles(self) -> None:
         for values, quartiles in (([7.0], (7.0, 7.0, 7.0)), ([1.0, 2.0], (1.25, 1.5, 1.75)),
                                   ([5.0, 1.0, 3.0, 2.0, 4.0], (2.0, 3.0, 4.0))):

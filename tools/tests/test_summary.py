@@ -1,5 +1,4 @@
 """Flows and their work. The counts, and what the command says, are in sessions/summary.toml."""
-from typing import Any
 from unittest import mock
 
 import pytest
@@ -9,10 +8,9 @@ from motesim.faults import Fault
 from motesim.report import Report
 from motesim.report.run import Run
 from motesim.scenario import Scenario
-from motesim.summary.columns import FLOWS, INTERVALS, LINKS, MOTES
+from motesim.summary.columns import FLOWS, LINKS, MOTES
 from motesim.summary.counts import summary
-from motesim.summary.flows import Message, flow_rows, flow_rows_by, read_flow
-from motesim.summary.series import Series
+from motesim.summary.flows import flow_rows, read_flow
 from sessions import TABLES, Table
 
 TEXTS = Table(TABLES / 'summary.toml').texts
@@ -26,8 +24,7 @@ def test_the_tables_have_the_columns_that_the_help_and_the_page_describe() -> No
     report, scenario = Report.parse(REPORT), Scenario.parse(SCENARIO)
     motes, net, links = summary(Run('small', report, scenario))
     for rows, columns in (([*motes, net], ['mote', 'program', *MOTES]), (links, [*LINKS]),
-                          (flow_rows(report, None, 'print hearer'), [*FLOWS]),
-                          ([*Series(report, 5).rows()], [*INTERVALS])):
+                          (flow_rows(report, None, 'print hearer'), [*FLOWS])):
         assert rows and all([*row] == columns for row in rows)
 
 
@@ -67,19 +64,3 @@ def test_a_flow_of_a_process_that_the_scenario_lacks_is_refused(words: str, seen
     talker = Report.parse(REPORT.replace('talker', 'a').replace('mote 0 a', 'mote 0 talker'))
     with pytest.raises(Fault, match='has no process talker; talker is a program, with: a, b$'):
         flow_rows(talker, scenario, 'print talker')
-
-
-def test_the_time_of_flows_by_interval_is_linear() -> None:
-    """Each message is looked at a few times, not once for each interval."""
-    seen = 0
-
-    class Counted(Message):
-        def __getattribute__(self, name: str) -> Any:
-            nonlocal seen
-            seen += name == 'at'
-            return super().__getattribute__(name)
-
-    found = {value: Counted(0, value) for value in range(1000)}
-    with mock.patch('motesim.summary.flows.messages', return_value=found):
-        its = flow_rows_by(Report.parse('mote 0 p\nmedium\nleft 0\n'), None, 'recv', 1)
-    assert [it['sent'] for it in its] == [1] * 1000 and seen < 10 * len(found)

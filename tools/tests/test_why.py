@@ -21,7 +21,6 @@ from motesim.causes.say import MOST_CALLS, Reasons, about, because, chain_as_jso
 from motesim.causes.source import At, Source
 from motesim.causes.state import after_moment
 from motesim.causes.watch import read_watch, replayed
-from motesim.summary.series import Series
 from project.differential.random_scenario import random_scenario
 from sessions import TABLES, Table
 from skips import need_built
@@ -312,7 +311,6 @@ def test_a_mote_that_boots_again(fault: str) -> None:
     assert [because(run, it) for it in hops[3:]] == ['in the list of autostart', fault, 'the start']
     assert [(it.at, it.value) for it in replayed(run, *read_watch(run, 'mote 0 n'))] == [(0, 0), (0, 1), (3, 0), (3, 1)]
     assert after_moment(run, 0, 4).replay.timers[0].due == 8 and after_moment(run, 0, 2).replay.timers[0].due == 5
-    assert [it['posted'] for it in Series(run.traces.report, 10).rows()][:1] == [1]
 
 
 def test_an_event_that_a_boot_forgets() -> None:

@@ -14,7 +14,7 @@ from motesim.judge.verdicts import breaks
 from motesim.scenario.fault_text import faults_asked
 from motesim.causes.chain import Hop, chain, path_of
 from motesim.causes.miss import misses
-from motesim.causes.question import Asked, Asker, Missing, Unasked
+from motesim.causes.question import Asked, Asker, Unasked
 from motesim.causes.say import (about, chain_as_json, heading, misses_as_json, of_path, on_values, rows_of_chain,
                                 rows_of_misses, rows_of_state, rows_of_values, state_as_json, values_as_json, words_of)
 from motesim.causes.source import Source, read_with_fields, source_of

@@ -14,10 +14,6 @@ With `--flow "print source -> print sink"` the message begins with the first lin
 of an origin, and of the net:
 {flows}
 
-`--by N` shows the counts of each interval of N moments instead, also of flows. Copies count in the interval in which
-they arrived; those that are `lost` or `left`, in the one in which they were sent. The columns of an interval:
-{intervals}
-
 `--motes` and `--links` show only one of the tables. `--csv` writes one table for a spreadsheet: the table of motes, or
 with `--links` the table of links. `--json` writes all tables in JSON.
 
@@ -26,13 +22,12 @@ The tool ends with status 0, or with 2 if the report can't be read.
 from __future__ import annotations
 
 from motesim.command import command
-from motesim.summary.columns import FLOWS, INTERVALS, LINKS, MOTES, described
+from motesim.summary.columns import FLOWS, LINKS, MOTES, described
 from motesim.words import Words, add_faults, add_table, words_of
 
 
 def parser() -> Words:
-    words = words_of((__doc__ or '').format(delay=LINKS['delay'], motes=described(MOTES), flows=described(FLOWS),
-                                             intervals=described(INTERVALS)))
+    words = words_of((__doc__ or '').format(delay=LINKS['delay'], motes=described(MOTES), flows=described(FLOWS)))
     words.add_argument('report', metavar='FILE', help='a report, or a scenario; - is standard input')
     words.add_argument('--scenario', metavar='FILE', help='if FILE is a report: its scenario')
     add_faults(words)
@@ -43,18 +38,12 @@ def parser() -> Words:
     part.add_argument('--motes', action='store_true', help='show only the table of motes and the net')
     part.add_argument('--links', action='store_true', help='show only the table of links')
     part.add_argument('--flow', metavar='WORDS', help='show flows from end to end, such as "print sink"')
-    words.add_argument('--by', metavar='N', type=int,
-                       help='show the counts of each interval of N moments; with --flow, of the messages that began '
-                            'in each interval')
     return words
 
 
 @command('summary')
 def main() -> int:
-    words = parser()
-    asked = words.parse_args()
-    if asked.by is not None and (asked.motes or asked.links):
-        words.error('--by is for the whole net: it can\'t be combined with --motes or --links')
+    asked = parser().parse_args()
     from motesim.output import output_to
     from motesim.summary.counts import status_of
     with output_to(asked.csv or asked.json, [asked.report, asked.scenario]):

@@ -19,7 +19,6 @@ import functools
 import hashlib
 import os
 import shutil
-import subprocess
 import sys
 import time
 from collections.abc import Sequence

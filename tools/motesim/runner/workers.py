@@ -9,7 +9,7 @@ import threading
 import time
 from collections.abc import Callable, Iterable, Iterator
 from types import FrameType
-from typing import TYPE_CHECKING, Any, Generic, TypeVar
+from typing import TYPE_CHECKING, Any, Generic
 
 from motesim.runner.ending import share_group
 from motesim.runner.pools import Done, Item, Result, Shared, fault_of, tried, until

@@ -28,13 +28,6 @@ FLOWS = {'origin': 'the mote at which messages began',
          'hops': "the hops to the reached motes, on average, by links that don't lose all; `-` without a scenario",
          'least': 'the least number of moments from the beginning of a message to its first delivery at a mote',
          'middle': 'their median', 'most': 'the greatest number of these moments'}
-INTERVALS = {'from': 'the first moment', 'to': 'the last moment', 'sent': 'packets that were sent',
-             **FATES,
-             'ratio': "`received`, divided by the copies that weren't `left`",
-             'delay': 'moments that the received copies were on their way, on average',
-             'posted': 'events that queues accepted', 'refused': 'events that full queues refused',
-             'queue': 'the greatest number of events in the queue of a mote',
-             'waited': 'moments that events waited in a queue, on average', 'prints': 'lines that were printed'}
 
 
 def described(columns: dict[str, str]) -> str:

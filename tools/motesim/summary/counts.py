@@ -13,17 +13,14 @@ from typing import Any
 
 from motesim.cells import aligned
 from motesim.report.moments import collided
-from motesim.faults import Fault
 from motesim.summary.columns import LINKS
 from motesim.summary.flows import NAMES as FLOW_NAMES
-from motesim.summary.flows import NAMES_BY, doubts, flow_rows, flow_rows_by
+from motesim.summary.flows import doubts, flow_rows
 from motesim.summary.shares import share
-from motesim.report import KINDS, LOST, MOST_MOMENT, OUTCOMES, Report
+from motesim.report import KINDS, LOST, OUTCOMES, Report
 from motesim.report.run import Run, read_run
 from motesim.scenario import Scenario
 from motesim.scenario.fault_text import faults_asked
-from motesim.summary.series import NAMES as SERIES_NAMES
-from motesim.summary.series import Series
 
 # A row of a table, by the names of the columns: numbers, names, or None if there is no value.
 Row = dict[str, Any]
@@ -144,29 +141,18 @@ def show(asked: argparse.Namespace, rows: list[Row], names: list[str], parts: di
 
 
 def show_flow(run: Run, asked: argparse.Namespace) -> int:
-    """Shows the rows of a flow, or those of its intervals, and why a flow has nothing to show or may mislead."""
-    words, by = asked.flow, asked.by
-    if by is None:
-        rows, names = flow_rows(run.report, run.scenario, words), FLOW_NAMES
-        parts = {'flow': words, 'origins': rows[:-1], 'net': rows[-1]}
-    else:
-        rows, names = flow_rows_by(run.report, run.scenario, words, by), NAMES_BY
-        parts = {'flow': words, 'by': by, 'intervals': rows}
-    for line in doubts(run.report, run.scenario, words):
+    """Shows the rows of a flow, and why it has nothing to show or may mislead."""
+    rows = flow_rows(run.report, run.scenario, asked.flow)
+    for line in doubts(run.report, run.scenario, asked.flow):
         print('summary: %s' % line, file=sys.stderr)
-    return show(asked, rows, names, parts)
+    return show(asked, rows, FLOW_NAMES, {'flow': asked.flow, 'origins': rows[:-1], 'net': rows[-1]})
 
 
 def status_of(asked: argparse.Namespace) -> int:
     """Prints the summary; returns the status."""
-    if asked.by is not None and not 1 <= asked.by <= MOST_MOMENT:
-        raise Fault('--by: an interval has 1 to %d moments' % MOST_MOMENT)
     run = read_run(asked.report, asked.scenario, faults=faults_asked(asked))
     if asked.flow is not None:
         return show_flow(run, asked)
-    if asked.by is not None:
-        its = list(Series(run.report, asked.by, run.scenario.end if run.scenario else None).rows())
-        return show(asked, its, SERIES_NAMES, {'by': asked.by, 'intervals': its})
     motes, net, links = summary(run)
     of_moments = collided(run.report)
     if of_moments:

@@ -25,7 +25,6 @@ from motesim.summary.shares import share
 
 Row = dict[str, Union[int, float, str, None]]
 NAMES = [*FLOWS]
-NAMES_BY = ['from', 'to', *(it for it in FLOWS if it not in ('origin', 'hops'))]
 FORM = re.compile(r'\s*(?:(send|recv)|print\s+([A-Za-z][A-Za-z0-9_]*))'
                   r'(?:\s+([0-9]{1,5})(?:\s+to\s+([0-9]{1,5}))?)?\s*')
 
@@ -208,20 +207,3 @@ def _row(origin: int | str, its: list[Message], scenario: Scenario | None) -> Ro
         'least': delays[0] if delays else None, 'middle': median(delays) if delays else None,
         'most': delays[-1] if delays else None,
     }
-
-
-def flow_rows_by(report: Report, scenario: Scenario | None, words: str, by: int) -> list[Row]:
-    """A row for each interval of `by` moments: the messages of a flow that began in it, as in `flow_rows`."""
-    begin, end = read_flow(words)
-    if scenario:
-        check_processes(report, scenario, (begin, end))
-    found = list(messages(report, begin, end).values())
-    last = max([it.at for it in found] + ([scenario.end] if scenario else []), default=0)
-    began = defaultdict[int, list[Message]](list)
-    for it in found:
-        began[it.at // by].append(it)
-    rows: list[Row] = []
-    for first in range(0, last + 1, by):
-        row = _row('', began[first // by], None)
-        rows.append({'from': first, 'to': first + by - 1, **{name: row[name] for name in NAMES_BY[2:]}})
-    return rows

@@ -1,7 +1,7 @@
 """What is said about a search and its results."""
 from __future__ import annotations
 
-from collections.abc import Iterator, Sequence
+from collections.abc import Iterator
 from pathlib import Path
 
 from motesim.cells import aligned

@@ -18,10 +18,7 @@ other scenarios, each has to answer a small one.
 """
 from __future__ import annotations
 
-import subprocess
-import sys
 import tempfile
-import time
 from collections import Counter
 from collections.abc import Iterable, Iterator
 from dataclasses import dataclass
@@ -39,6 +36,7 @@ from motesim.words import words_of
 from project.differential.coverage import Coverage
 from project.differential.host_runs import HostFault, HostRuns, compilers
 from project.differential.random_scenario import random_scenario
+from project.tree import commit
 
 GATE_COUNT = 300
 # (the most scenarios that are written to files because they differ)
@@ -72,7 +70,6 @@ class Compared(NamedTuple):
     reached."""
     failure: Failure | None
     reached: Counter[str]
-    bytes: int = 0
 
 
 def first_difference(one: bytes, other: bytes) -> str:
@@ -124,7 +121,7 @@ class Comparison:
         scenario = item.scenario or random_scenario(item.seed, reached)
         failure, report = self.failure(scenario, item.is_strict)
         reached.update(Coverage.of_report(report))
-        return Compared(failure, reached, len(report))
+        return Compared(failure, reached)
 
     def smallest(self, scenario: bytes, is_strict: bool = False) -> bytes:
         """The smallest scenario that still differs: everything that isn't needed for the difference is removed."""
@@ -160,33 +157,23 @@ def items_of_files(names: list[str]) -> Iterator[Item]:
             raise Fault('%s: %s' % (name, fault.strerror)) from None
 
 
-def random_items(seed: str, count: int, is_strict: bool = False) -> Iterator[Item]:
+def random_items(seed: str, count: int) -> Iterator[Item]:
     """The items of consecutive seeds. The seeds are numbers from a first one on; or a word, such as a commit, to which
     -0, -1, .. are added."""
     for number in range(count):
         name = str(int(seed) + number) if seed.isdecimal() else '%s-%d' % (seed, number)
-        yield Item('the scenario of seed %s' % name, seed=name, is_strict=is_strict)
-
-
-def commit(top: Path) -> str:
-    """The commit of a tree; 'none' if it has none."""
-    done = subprocess.run(['git', '-C', str(top), 'rev-parse', '--short=12', 'HEAD'], capture_output=True, text=True)
-    return done.stdout.strip() or 'none'
+        yield Item('the scenario of seed %s' % name, seed=name)
 
 
 def compare_all(items: Iterable[Item], work: Comparison, folder: Path,
                 jobs: int | None) -> tuple[int, list[Failure], Coverage]:
     """Compares items; returns how many agree, why the others don't, and the features that were reached."""
-    agreed = size = 0
-    failures = list[Failure]()
-    coverage = Coverage()
-    begin = last = time.monotonic()
+    agreed, failures, coverage = 0, list[Failure](), Coverage()
     with pool(lambda its: its.compare, work, jobs, seconds=300.0) as workers:
         for done in workers.results(items):
             failure = done.result.failure if done.result else Failure(False, done.fault or 'it was ended')
             if done.result:
                 coverage.add(done.result.reached)
-                size += done.result.bytes
             if not failure:
                 agreed += 1
             else:
@@ -200,11 +187,6 @@ def compare_all(items: Iterable[Item], work: Comparison, folder: Path,
                     path = folder / ('differs_%d.toml' % len(failures))
                     path.write_bytes(scenario)
                     print('  the scenario is in %s' % path, flush=True)
-            now = time.monotonic()
-            if now - last > 20:
-                last = now
-                print('%d agree, %d don\'t, %d MB of reports, %d s' % (agreed, len(failures), size >> 20, now - begin),
-                      file=sys.stderr, flush=True)
     return agreed, failures, coverage
 
 
@@ -217,8 +199,6 @@ def main() -> int:
     words.add_argument('--count', type=int, default=100, metavar='N', help='the number of random scenarios (100)')
     words.add_argument('--jobs', type=int, metavar='N', help='the number of processes (one for each processor)')
     words.add_argument('--one-thread', action='store_true', help='leave out the runs with workers')
-    words.add_argument('--strict', action='store_true',
-                       help='have gcc or clang check the C code of random scenarios too: a warning is an error')
     words.add_argument('--gate', action='store_true', help='compare all examples and cases, and %d random scenarios '
                        'with the commit as seed' % GATE_COUNT)
     words.add_argument('-o', dest='folder', default='.', metavar='FOLDER',
@@ -235,11 +215,11 @@ def main() -> int:
         if asked.scenario:
             items, is_random = items_of_files(asked.scenario), False
         elif asked.gate:
-            seed = commit(TOP)
+            seed = commit()[:12] or 'none'
             print('the random scenarios are those of --seed %s --count %d' % (seed, GATE_COUNT))
             items, is_random = chain(fixed_items(TOP), random_items(seed, GATE_COUNT)), True
         else:
-            items, is_random = random_items(asked.seed, asked.count, asked.strict), True
+            items, is_random = random_items(asked.seed, asked.count), True
         agreed, failures, coverage = compare_all(items, work, Path(asked.folder), asked.jobs)
     for line in coverage.lines() if is_random else ():
         print(line)
