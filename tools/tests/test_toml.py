@@ -1,4 +1,4 @@
-"""TOML that isn't: deep nesting, long numbers, and plain mistakes have their place. What tools say is in refusals.tsv."""
+"""TOML that isn't: deep nesting, long numbers and plain mistakes have their place. refusals.tsv has what tools say."""
 import itertools
 import unittest
 
