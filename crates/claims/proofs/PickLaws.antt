@@ -1,5 +1,5 @@
 -- The line at an index, mote by mote and line by line.
-use Rattle.std.proofs.Common.{◌≡◌, ◌∙◌, refl, ap, arith, ℕ, zero, suc, ◌+◌, ◌-◌, ◌<◌, ◌≤◌, Bool, true, false, cond, ◌&&◌, List, [], ◌∷◌, ◌++◌, length, get_or, drop, map, filter, slice_get}
+use Rattle.std.proofs.Common.{◌≡◌, ◌∙◌, refl, ap, arith, ℕ, zero, suc, ◌+◌, ◌-◌, ◌<◌, ◌≤◌, Bool, true, false, cond, ◌&&◌, List, [], ◌∷◌, ◌++◌, length, get_or, drop, filter, slice_get}
 use Rattle.std.specs.List.{flat_map, enumerate_from}
 use Rattle.std.proofs.lemmas.List.{drop_more}
 use Rattle.std.proofs.lemmas.List.Sums.{length-filter}
@@ -51,7 +51,3 @@ get-here g ms i n d h k = ap (λ l. slice_get (flat_map g l) n) (drop_more ms i 
 
 pub get-later : {A B : Type 0} (g : B → List A) (ms : List B) (i n : ℕ) (d : B) → i < length ms → length (g (get_or ms i d)) ≤ n → slice_get (flat_map g (drop i ms)) n ≡ slice_get (flat_map g (drop (i + 1) ms)) (n - length (g (get_or ms i d)))
 get-later g ms i n d h k = ap (λ l. slice_get (flat_map g l) n) (drop_more ms i d h) ∙ get-append-right (g (get_or ms i d)) (flat_map g (drop (i + 1) ms)) n k
-
--- the lines from a place on that pass a test
-abbrev pub from_place : {A B : Type 0} → (B → Bool) → (ℕ × A → B) → List A → ℕ → List B
-from_place p h xs i = filter p (map h (enumerate_from i (drop i xs)))

@@ -18,16 +18,12 @@ followed_again a b c h k = grind (arith, nat_tests)
 -- an event before the reach of a line, to which a later line has the relation, is one to which the line has it
 pub related_early : (r : Relation) (b l e : Found) → is_followed b l ≡ true → e.line.at < reach r b → is_related r l e ≡ true → is_related r b e ≡ true
 related_early After b l e f h q = grind (arith, nat_tests)
-related_early NotBefore b l e f h q = grind (arith, nat_tests)
-related_early (Within k) b l e f h q = grind (arith, nat_tests)
-related_early (Followed k) b l e f h q = grind (arith, nat_tests)
+related_early x b l e f h q = grind (arith, nat_tests)
 
 -- no line has the relation to an event beyond its reach
 pub unrelated_far : (r : Relation) (l e : Found) → reach r l < e.line.at → is_related r l e ≡ false
 unrelated_far After l e h = grind (arith, nat_tests)
-unrelated_far NotBefore l e h = grind (arith, nat_tests)
-unrelated_far (Within k) l e h = grind (arith, nat_tests)
-unrelated_far (Followed k) l e h = grind (arith, nat_tests)
+unrelated_far x l e h = grind (arith, nat_tests)
 
 before_later : (a l e : Found) → is_followed a l ≡ true → is_before e a ≡ true → is_before e l ≡ true
 before_later a l e f p = grind (arith, nat_tests)

@@ -79,20 +79,6 @@ stands_still o r n a l k m f s = record {
       (λ e i. early_pair o.relation n a l b e m f i) (lines_of r o.event) h));
 }
 
--- no motes
-pub extends_none : (o : Order) (r : ReportModel) (l : Found) (n : ℕ) (k : Option Found) → Extends o r l n [] k k
-extends_none o r l n k = record {
-  event = λ q h. or_left (some_is q k) false h;
-  related = λ h. h;
-  kept = λ b f g h. h;
-  all = λ b f g h. cc;
-}
-
-or_shifted : (a b c d : Bool) → ((a || b) ≡ true → d ≡ true) → (a || (b || c)) ≡ true → (d || c) ≡ true
-or_shifted true b c d f h = or_left d c (f refl)
-or_shifted false true c d f h = or_left d c (f refl)
-or_shifted false false c d f h = or_right d c h
-
 or_again : (a b c : Bool) → ((a || b) || c) ≡ true → (a || (b || c)) ≡ true
 or_again true b c h = refl
 or_again false b c h = h

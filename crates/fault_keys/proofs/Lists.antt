@@ -1,10 +1,11 @@
 -- Lists of keys.
 use Rattle.std.proofs.Common.{◌≡◌, ℕ, zero, suc, ◌+◌, ◌<◌, ◌⊎◌, Bool, true, false, ◌||◌, eqb, if◌then◌else◌, List, [], ◌∷◌, ◌++◌, map, append_assoc, refl, ap, sym, subst, inl, inr, arith, ◌∙◌}
-use Rattle.std.specs.List.{Contains, filter, flat_map, list_any, range_with_len}
+use Rattle.std.specs.List.{Contains, filter, list_any, range_with_len}
 use Rattle.std.proofs.lemmas.Bool.{cases_Bool, eqb-true, eq-eqb}
 use Rattle.std.proofs.lemmas.List.{map-append}
-use Rattle.std.proofs.lemmas.List.Elements.{filter-append, Contains-append_left, Contains-append_right, Contains-append_cases, Contains-push, Contains-push_cases}
+use Rattle.std.proofs.lemmas.List.Elements.{filter-append, Contains-append_left, Contains-push, Contains-push_cases}
 use Rattle.survey.specs.FaultSet.{IsOnce}
+use Rattle.survey.proofs.Turns.{here, later, cases}
 use Rattle.fault_keys.specs.Keys.{new_keys, with_new}
 
 pub range_more : (a n j : ℕ) → a + n ≡ j → range_with_len a (n + 1) ≡ range_with_len a n ++ j ∷ []
@@ -26,16 +27,6 @@ filter_more p old all new n before after =
 pub any_map : {X Y : Type 0} (p : Y → Bool) (f : X → Y) (xs : List X) → list_any (λ x. p (f x)) xs ≡ list_any p (map f xs)
 any_map p f [] = refl
 any_map p f (x ∷ xs) = ap (λ b. p (f x) || b) (any_map p f xs)
-
-pub here : {X : Type 0} (x : X) (xs : List X) → Contains (x ∷ xs) x
-here x xs = (0, omega arith, refl)
-
-pub later : {X : Type 0} (x y : X) (xs : List X) → Contains xs y → Contains (x ∷ xs) y
-later x y xs at = (suc at.0, omega arith, at.2)
-
-pub cases : {X : Type 0} (x y : X) (xs : List X) → Contains (x ∷ xs) y → (x ≡ y) ⊎ Contains xs y
-cases x y xs (zero, lt, e) = inl e
-cases x y xs (suc k, lt, e) = inr (k, omega arith, e)
 
 pub any_from : {X : Type 0} (p : X → Bool) (xs : List X) → list_any p xs ≡ true → (x : X) × Contains xs x × (p x ≡ true)
 any_from p [] h = absurd (let never : true ≡ false = sym h in cc)
@@ -59,38 +50,6 @@ any_of {X} p (z ∷ xs) x at is =
     elim (cases z x xs at) [
       | inl e ↦ first_true (p z) (list_any p xs) (ap p e ∙ is)
       | inr rest ↦ second_true (p z) (list_any p xs) (any_of p xs x rest is)
-    ]
-
-pub in_map : {X Y : Type 0} (f : X → Y) (xs : List X) (y : Y) → Contains (map f xs) y → (x : X) × Contains xs x × (f x ≡ y)
-in_map f [] y at = absurd (omega arith)
-in_map f (x ∷ xs) y at =
-    elim (cases (f x) y (map f xs) at) [
-      | inl e ↦ (x, here x xs, e)
-      | inr rest ↦ let r = in_map f xs y rest in (r.0, later x r.0 xs r.1, r.2)
-    ]
-
-pub map_has : {X Y : Type 0} (f : X → Y) (xs : List X) (x : X) → Contains xs x → Contains (map f xs) (f x)
-map_has f [] x at = absurd (omega arith)
-map_has {X} {Y} f (z ∷ xs) x at =
-    elim (cases z x xs at) [
-      | inl e ↦ let C : X → Type 0 = λ t. Contains (f z ∷ map f xs) (f t) in subst C e (here (f z) (map f xs))
-      | inr rest ↦ later (f z) (f x) (map f xs) (map_has f xs x rest)
-    ]
-
-pub in_flat : {X Y : Type 0} (f : X → List Y) (xs : List X) (y : Y) → Contains (flat_map f xs) y → (x : X) × Contains xs x × Contains (f x) y
-in_flat f [] y at = absurd (omega arith)
-in_flat f (x ∷ xs) y at =
-    elim (Contains-append_cases (f x) (flat_map f xs) y at) [
-      | inl front ↦ (x, here x xs, front)
-      | inr rest ↦ let r = in_flat f xs y rest in (r.0, later x r.0 xs r.1, r.2)
-    ]
-
-pub flat_has : {X Y : Type 0} (f : X → List Y) (xs : List X) (x : X) (y : Y) → Contains xs x → Contains (f x) y → Contains (flat_map f xs) y
-flat_has f [] x y at there = absurd (omega arith)
-flat_has {X} {Y} f (z ∷ xs) x y at there =
-    elim (cases z x xs at) [
-      | inl e ↦ let C : X → Type 0 = λ t. Contains (f t) y in Contains-append_left (f z) (flat_map f xs) y (subst C (sym e) there)
-      | inr rest ↦ Contains-append_right (f z) (flat_map f xs) y (flat_has f xs x y rest there)
     ]
 
 pub filter_in : (p : ℕ → Bool) (xs : List ℕ) (k : ℕ) → Contains (filter p xs) k → Contains xs k × (p k ≡ true)

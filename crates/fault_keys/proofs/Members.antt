@@ -15,7 +15,8 @@ use Rattle.fault_keys.specs.Keys.{bound_of, fault_of, fault_of_copy, fixed_keys,
 use Rattle.fault_keys.specs.Laws.{KeysOfferAll, runs_of}
 use Rattle.fault_keys.specs.declared.keys.CopyFault.{CopyFault}
 use Rattle.fault_keys.specs.declared.keys.CopyFault.TheVariants.{Lost, Late}
-use Rattle.fault_keys.proofs.Lists.{any_from, any_of, filter_has, filter_in, fine_none, flat_has, in_flat, in_map, map_has, new_members, range_has, range_in}
+use Rattle.survey.proofs.Turns.{flat_has, in_flat, in_map, map_has}
+use Rattle.fault_keys.proofs.Lists.{any_from, any_of, filter_has, filter_in, fine_none, new_members, range_has, range_in}
 use Rattle.fault_keys.proofs.Packed.{IsUnpacked, number_below, packed_below, packs, unpacks}
 
 both : (a b : Bool) → (a && b) ≡ true → (a ≡ true) × (b ≡ true)
@@ -42,17 +43,6 @@ names_from (Late by) s n r a b c h =
 names_itself : (kind : CopyFault) (s n r : ℕ) → names (fault_of_copy kind s n r) s n r ≡ true
 names_itself Lost s n r = and_true (eqb s s && eqb n n) (eqb r r) (and_true (eqb s s) (eqb n n) (eq-eqb s s refl) (eq-eqb n n refl)) (eq-eqb r r refl)
 names_itself (Late by) s n r = and_true (eqb s s && eqb n n) (eqb r r) (and_true (eqb s s) (eqb n n) (eq-eqb s s refl) (eq-eqb n n refl)) (eq-eqb r r refl)
-
--- a copy in a report that isn't lost
-pub record IsThere (r : ReportModel) (s n to : ℕ) : Type 0 where
-  pub packet : Packet
-  pub logged : Contains r.log packet
-  pub fate : Fate
-  pub fated : Contains packet.fates fate
-  pub some : is_some fate.at ≡ true
-  pub sender_is : packet.sent.sender ≡ s
-  pub number_is : packet.sent.number ≡ n
-  pub to_is : fate.to ≡ to
 
 named_from : (fault : Fault) (r : ReportModel) → names_copy_in fault r ≡ true
     → (p : Packet) × Contains r.log p × (f : Fate) × Contains p.fates f × (names fault p.sent.sender p.sent.number f.to ≡ true) × (is_some f.at ≡ true)

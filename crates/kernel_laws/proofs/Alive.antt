@@ -4,7 +4,7 @@ use Rattle.std.specs.List.{filter}
 use Rattle.std.proofs.lemmas.List.{length-set}
 use Rattle.std.proofs.lemmas.Bool.Decides.{nat_tests}
 use Rattle.program_tree.specs.declared.event.Proc.{Proc}
-use Rattle.program_tree.specs.declared.event.Proc.TheVariants.{Own, Etimer, Ctimer, Radio}
+use Rattle.program_tree.specs.declared.event.Proc.TheVariants.{Own}
 use Rattle.process_kernel.specs.declared.process.ProcessState.{ProcessState}
 use Rattle.process_kernel.specs.declared.process.ProcessState.TheVariants.{Off, Running, Called}
 use Rattle.process_kernel.specs.declared.process.Member.{Member}
@@ -35,9 +35,7 @@ alive_has p s a = let within = is_entry s.states (place_of p) Off (is_off (proce
 -- a number below 3 is not the place of any process of the program
 pub no_own : (p : Proc) → (k : ℕ) → k < 3 → IsOwnProcess p → k ≡ place_of p → ⊥
 no_own (Own p) k l own e = omega arith
-no_own Etimer k l own e = own
-no_own Ctimer k l own e = own
-no_own Radio k l own e = own
+no_own x k l own e = own
 
 others_there : (ms : List Member) (q : Proc) (m : Member) → (place_of m.process == place_of q) ≡ false → holds_member (filter (λ x. not (is_same x.process q)) ms) m ≡ holds_member ms m
 others_there [] q m e = refl

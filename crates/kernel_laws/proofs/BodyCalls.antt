@@ -1,7 +1,5 @@
 -- After each call the lines about a process are still those of its lives, however deep calls nest.
-use Rattle.std.proofs.Common.{ℕ, zero, suc, ◌≡◌, ◌⊎◌, inl, inr, not, ◌&&◌, ◌||◌, ◌==◌, Bool, true, false}
-use Rattle.std.proofs.Common.{if◌then◌else◌, List, [], ◌∷◌, ◌++◌, ◌+◌, Option, Some, None, slice_get, unwrap_or, refl}
-use Rattle.std.proofs.Common.{sym, ap, ◌∙◌, subst, append_assoc}
+use Rattle.std.proofs.Common.{ℕ, zero, suc, ◌≡◌, ◌⊎◌, inl, inr, not, ◌&&◌, ◌||◌, ◌==◌, Bool, true, false, if◌then◌else◌, List, [], ◌∷◌, ◌++◌, ◌+◌, Option, Some, None, slice_get, unwrap_or, refl, sym, ap, ◌∙◌, subst, append_assoc}
 use Rattle.program_tree.specs.declared.event.Proc.{Proc}
 use Rattle.program_tree.specs.declared.event.Proc.TheVariants.{Own, Etimer, Ctimer, Radio}
 use Rattle.program_tree.specs.declared.event.Target.TheVariants.{One}
@@ -34,21 +32,13 @@ use Rattle.kernel_laws.specs.Printed.{IsQuietApart, LivesSoFar, OnRecord, HasSta
 use Rattle.kernel_laws.specs.Telling as telling
 use Rattle.kernel_laws.specs.Telling.{ProcessInMote, process_in_mote, IsOut, Next, AtStart, AtCall, CanCome}
 use Rattle.kernel_laws.proofs.EachStep as each
-use Rattle.kernel_laws.proofs.EachStep.{AnyProcess, Lead, AreJoined, AreRingSteps, lead_from, lead_bind, lead_if}
-use Rattle.kernel_laws.proofs.EachStep.{lead_goes, lead_still, bind_twice}
+use Rattle.kernel_laws.proofs.EachStep.{AnyProcess, Lead, AreJoined, AreRingSteps, lead_from, lead_bind, lead_if, lead_goes, lead_still, bind_twice}
 use Rattle.kernel_laws.proofs.Tables.{is_equal}
 use Rattle.kernel_laws.proofs.Lives.{at_first}
-use Rattle.kernel_laws.proofs.QuietThreads.{IsQuietRest, fresh_quiet, poll_quiet as on_poll_quiet}
-use Rattle.kernel_laws.proofs.QuietThreads.{exit_quiet as on_exit_quiet, callback_quiet, IsNoPrintStep}
-use Rattle.kernel_laws.proofs.QuietThreads.{advances_quietly, answered_quietly}
-use Rattle.kernel_laws.proofs.ProcessInMote.{Always, etimer_other, ctimer_other, radio_other, own_other, always_if}
-use Rattle.kernel_laws.proofs.ProcessInMote.{halted_quiet, get_set, IsOther, IsQuiet, which, other_own, line_quiet}
-use Rattle.kernel_laws.proofs.ProcessInMote.{print_quiet, state_quiet, exiting_quiet, poll_quiet, variables_quiet}
-use Rattle.kernel_laws.proofs.ProcessInMote.{remainder_quiet, body_quiet, enlist_quiet, leave_quiet, post_quiet}
-use Rattle.kernel_laws.proofs.OwnSteps.{alike, state_in_mote, exiting_in_mote, leave_in_mote, body_is_right, put_in_mote}
-use Rattle.kernel_laws.proofs.OwnSteps.{enlist_in_mote}
-use Rattle.kernel_laws.proofs.BodyRuns.{IfGives, gives_bind, from_always, IsAway, ComesHere, HasLived, SoFar, RanFrom}
-use Rattle.kernel_laws.proofs.BodyRuns.{BodyRuns, IsNoPrint, runs_on}
+use Rattle.kernel_laws.proofs.QuietThreads.{IsQuietRest, fresh_quiet, poll_quiet as on_poll_quiet, exit_quiet as on_exit_quiet, callback_quiet, IsNoPrintStep, advances_quietly, answered_quietly}
+use Rattle.kernel_laws.proofs.ProcessInMote.{Always, etimer_other, ctimer_other, radio_other, own_other, always_if, halted_quiet, get_set, IsOther, IsQuiet, which, other_own, line_quiet, print_quiet, state_quiet, exiting_quiet, poll_quiet, variables_quiet, remainder_quiet, body_quiet, enlist_quiet, leave_quiet, post_quiet}
+use Rattle.kernel_laws.proofs.OwnSteps.{alike, state_in_mote, exiting_in_mote, leave_in_mote, body_is_right, put_in_mote, enlist_in_mote}
+use Rattle.kernel_laws.proofs.BodyRuns.{IfGives, gives_bind, from_always, IsAway, ComesHere, HasLived, SoFar, RanFrom, BodyRuns, IsNoPrint, runs_on}
 
 -- the earlier lines about the process
 module _ (program : Tree) (mote p : ℕ) (code : Code) (earlier : List Line) where
@@ -199,9 +189,7 @@ module _ (program : Tree) (mote p : ℕ) (code : Code) (earlier : List Line) whe
 
   is_ours : (q : Proc) → IsOther p q → each.IsOurs Keeps Stops chain AnyProcess Others q
   is_ours (Own q) n = λ k. other_own p q n (sym k)
-  is_ours Etimer n = tt
-  is_ours Ctimer n = tt
-  is_ours Radio n = tt
+  is_ours x n = tt
 
   pub steps : each.AreSteps Keeps Stops chain AnyProcess Others
   unfolding leave_of write_of

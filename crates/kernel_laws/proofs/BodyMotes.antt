@@ -1,6 +1,5 @@
 -- After each boot, kernel run and call of a kernel, the lines about a process are still those of its lives.
-use Rattle.std.proofs.Common.{ℕ, ◌≡◌, ◌+◌, Bool, true, false, nat_lt, if◌then◌else◌, List, [], ◌∷◌, ◌++◌, inl, inr}
-use Rattle.std.proofs.Common.{Some, length, slice_get, refl, sym, ap, ◌∙◌, subst, append-nil}
+use Rattle.std.proofs.Common.{ℕ, ◌≡◌, ◌+◌, Bool, true, false, nat_lt, if◌then◌else◌, List, [], ◌∷◌, ◌++◌, inl, inr, Some, length, slice_get, refl, sym, ap, ◌∙◌, subst, append-nil}
 use Rattle.std.specs.Prelude.{option_map}
 use Rattle.std.proofs.lemmas.List.{length-replicate}
 use Rattle.std.proofs.lemmas.List.Elements.{filter-append}
@@ -17,19 +16,14 @@ use Rattle.process_kernel.specs.declared.process.ProcessState.{ProcessState}
 use Rattle.process_kernel.specs.declared.process.ProcessState.TheVariants.{Off, Running, Called}
 use Rattle.process_kernel.specs.ProcessList.{place_of}
 use Rattle.process_kernel.specs.State.{KernelState, Outcome, Ends, Goes, Calls}
-use Rattle.process_kernel.specs.Posts.{own_event}
 use Rattle.process_kernel.specs.Operations.{calls_of}
 use Rattle.process_kernel.specs.KernelModel.{begun_of, most_units, KernelModel, unbooted, with_poll, with_packet, given, begun, boot_given, run_given}
 use Rattle.process_kernel.specs.Process.{process_run, boot_of}
 use Rattle.kernel_laws.specs.Going.{IsNote}
 use Rattle.kernel_laws.specs.InStep.{AreInStep, state_at_place, exiting_at, listed_in}
-use Rattle.kernel_laws.specs.Traces.{KernelCall, RunAt, PollOf, Accepts, Notes, Traced, traced_after_call, traced_after_calls}
-use Rattle.kernel_laws.specs.Traces.{booted_at}
-use Rattle.kernel_laws.specs.Printed.{IsQuietApart, starts_or_prints, starts_and_prints, Unborn, LivesSoFar, OnRecord}
-use Rattle.kernel_laws.specs.Printed.{PrintsAreTheReading, PrintsSoFarAreTheReading}
-use Rattle.kernel_laws.specs.Telling.{ProcessInMote, process_in_mote, RestsAsTraced, TellsSoFar, IsProcess, TellingIsOfLives}
-use Rattle.kernel_laws.specs.Telling.{TellingIsOfLivesSoFar, NoLinesTellFirst, BootTells, RunTells, PollTells}
-use Rattle.kernel_laws.specs.Telling.{PacketTells, NoteTells}
+use Rattle.kernel_laws.specs.Traces.{KernelCall, RunAt, PollOf, Accepts, Notes, Traced, traced_after_call, traced_after_calls, booted_at}
+use Rattle.kernel_laws.specs.Printed.{IsQuietApart, starts_or_prints, starts_and_prints, Unborn, LivesSoFar, OnRecord, PrintsAreTheReading, PrintsSoFarAreTheReading}
+use Rattle.kernel_laws.specs.Telling.{ProcessInMote, process_in_mote, RestsAsTraced, TellsSoFar, IsProcess, TellingIsOfLives, TellingIsOfLivesSoFar, NoLinesTellFirst, BootTells, RunTells, PollTells, PacketTells, NoteTells}
 use Rattle.kernel_laws.proofs.Resting.{numbered_listed, first_rests}
 use Rattle.kernel_laws.proofs.ProcessInMote.{IsQuiet, traced_more, line_quiet, needs_poll_quiet, poll_quiet}
 use Rattle.kernel_laws.proofs.EachStep.{Lead, AreRunSteps, kernel_led, boot_led, unless_halts}
@@ -132,18 +126,7 @@ note_apart : (p : ℕ) (w : What) → IsNote w → starts_or_prints (Own p) w �
 note_apart p (what.Recv f n v) h = refl
 note_apart p (what.Lost f n) h = refl
 note_apart p (what.Collide f n) h = refl
-note_apart p (what.Start q) h = absurd h
-note_apart p (what.Leave q) h = absurd h
-note_apart p (what.Post n t e w) h = absurd h
-note_apart p (what.Full t e w) h = absurd h
-note_apart p (what.Take n q) h = absurd h
-note_apart p (what.Drop n q) h = absurd h
-note_apart p (what.Print q v) h = absurd h
-note_apart p (what.Busy q) h = absurd h
-note_apart p what.Halt h = absurd h
-note_apart p (what.Send n v) h = absurd h
-note_apart p (what.Deaf f n) h = absurd h
-note_apart p what.Boots h = absurd h
+note_apart p x h = absurd h
 
 note_silent : (p : ℕ) (lines : List Line) (l : Line) → IsNote l.what → starts_and_prints (Own p) (lines ++ l ∷ []) ≡ starts_and_prints (Own p) lines
 note_silent p lines l n = traced_more (Own p) lines l ∙ ap (λ b. starts_and_prints (Own p) lines ++ (if b then l ∷ [] else [])) (note_apart p l.what n) ∙ append-nil _

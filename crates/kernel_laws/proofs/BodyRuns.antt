@@ -1,7 +1,6 @@
 -- A run of the body of a process continues the run of its fresh thread, if the other processes that it calls don't
 -- change the process.
-use Rattle.std.proofs.Common.{ℕ, zero, ◌≡◌, ◌<◌, ◌||◌, Bool, true, false, if◌then◌else◌, List, [], ◌∷◌, ◌++◌, Some}
-use Rattle.std.proofs.Common.{None, slice_get, slice_set, refl, sym, ap, ◌∙◌, subst, arith, append_assoc, append-nil}
+use Rattle.std.proofs.Common.{ℕ, zero, ◌≡◌, ◌<◌, ◌||◌, Bool, true, false, if◌then◌else◌, List, [], ◌∷◌, ◌++◌, Some, None, slice_get, slice_set, refl, sym, ap, ◌∙◌, subst, arith, append_assoc, append-nil}
 use Rattle.std.proofs.lemmas.Bool.Decides.{nat_tests}
 use Rattle.program_tree.specs.declared.event.Proc.TheVariants.{Own}
 use Rattle.program_tree.specs.declared.event.Target.{Target}
@@ -26,11 +25,9 @@ use Rattle.process_kernel.specs.ProcessList.{is_running_state, is_called_state}
 use Rattle.process_kernel.specs.Thread.{looks_of, has_ended, stepped_with, stepped_of}
 use Rattle.process_kernel.specs.Posts.{process_post}
 use Rattle.process_kernel.specs.Operations.{posted, act_of, answered_with, answer_of, perform_of, after_step, run_of}
-use Rattle.kernel_laws.specs.Printed.{printed, left_by, starts_and_prints, starts_or_prints, lines_of_life, Lives}
-use Rattle.kernel_laws.specs.Printed.{LivesAgain, LivesSoFar, OnRecord}
+use Rattle.kernel_laws.specs.Printed.{printed, left_by, starts_and_prints, starts_or_prints, lines_of_life, Lives, LivesAgain, LivesSoFar, OnRecord}
 use Rattle.kernel_laws.specs.Telling as telling
-use Rattle.kernel_laws.specs.Telling.{ProcessInMote, process_in_mote, Next, AtStart, InCall, AtCall, CanCome, IsAnswered}
-use Rattle.kernel_laws.specs.Telling.{HasLife}
+use Rattle.kernel_laws.specs.Telling.{ProcessInMote, process_in_mote, Next, AtStart, InCall, AtCall, CanCome, IsAnswered, HasLife}
 use Rattle.kernel_laws.proofs.Lives.{operates_on, performs_there, gives_up_on, in_state_there, exits_there, ends_there}
 use Rattle.kernel_laws.proofs.Unanswered.{IsUnanswered, StepUnanswered, step_unanswered, answer_is_unused}
 use Rattle.kernel_laws.proofs.ProcessInMote.{Always, get_set, traced_more, halted_quiet, post_quiet}

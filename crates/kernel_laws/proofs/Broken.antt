@@ -5,7 +5,7 @@ use Rattle.std.proofs.lemmas.List.Elements.{All-head, All-tail, Contains-append_
 use Rattle.std.proofs.lemmas.List.{length-append}
 use Rattle.std.proofs.Math.Seq.{take-append_seam, drop-append_seam}
 use Rattle.std.proofs.lemmas.Bool.Decides.{nat_tests}
-use Rattle.kernel_laws.specs.HandedOn.{Target, ToOne, ToAll, Line, Start, Leave, Post, Take, Drop, Halt, Other, Incarnation, Handing, has_incarnation, process_list, posted_serials, handings, handings_behind, of_serial, IsHandingFor, IsGivenToAll, EndsInHalt, HandedOn}
+use Rattle.kernel_laws.specs.HandedOn.{Target, ToOne, ToAll, Line, Start, Leave, Post, Take, Halt, Other, Incarnation, Handing, has_incarnation, process_list, posted_serials, handings, handings_behind, of_serial, IsHandingFor, IsGivenToAll, EndsInHalt, HandedOn}
 use Rattle.kernel_laws.proofs.Lines.{alone}
 use Rattle.kernel_laws.specs.DeliveryTraces as traces
 use Rattle.kernel_laws.specs.DeliveryTraces.{TracesThatDoNotDeliver}
@@ -30,12 +30,7 @@ at_head x y t c = elim (Contains-append_cases (x ∷ []) t y c) [ inl d ↦ inl 
 has_posted : (t : List Line) (s : ℕ) (g : Target) → Contains t (Post s g) → has s (posted_serials t) ≡ true
 has_posted [] s g c = absurd (omega (arith, c.1))
 has_posted (Post r f ∷ t) s g c = elim (at_head (Post r f) (Post s g) t c) [ inl e ↦ (let q : r ≡ s = cc in grind (arith, nat_tests)) | inr d ↦ (let q = has_posted t s g d in grind (arith, nat_tests)) ]
-has_posted (Start p ∷ t) s g c = elim (at_head (Start p) (Post s g) t c) [ inl e ↦ absurd (cc) | inr d ↦ has_posted t s g d ]
-has_posted (Leave p ∷ t) s g c = elim (at_head (Leave p) (Post s g) t c) [ inl e ↦ absurd (cc) | inr d ↦ has_posted t s g d ]
-has_posted (Take r p ∷ t) s g c = elim (at_head (Take r p) (Post s g) t c) [ inl e ↦ absurd (cc) | inr d ↦ has_posted t s g d ]
-has_posted (Drop r p ∷ t) s g c = elim (at_head (Drop r p) (Post s g) t c) [ inl e ↦ absurd (cc) | inr d ↦ has_posted t s g d ]
-has_posted (Halt ∷ t) s g c = elim (at_head Halt (Post s g) t c) [ inl e ↦ absurd (cc) | inr d ↦ has_posted t s g d ]
-has_posted (Other ∷ t) s g c = elim (at_head Other (Post s g) t c) [ inl e ↦ absurd (cc) | inr d ↦ has_posted t s g d ]
+has_posted (x ∷ t) s g c = elim (at_head x (Post s g) t c) [ inl e ↦ absurd (cc) | inr d ↦ has_posted t s g d ]
 
 not_yet : HandedOn traces.not_yet_posted → ⊥
 not_yet h =
@@ -131,6 +126,11 @@ at_place t s lacking g =
       },
     )
 
+-- the place of the event with serial 0 that was posted to all
+placed : (t : List Line) (h : HandedOn t) → 0 < h.handed → Contains t (Post 0 ToAll)
+    → (lacking : List Incarnation) × (k : ℕ) × IsAt t 0 lacking k × ((lacking ≡ []) ⊎ ((1 ≡ h.handed) × EndsInHalt t))
+placed t h b c = let g = h.to_all 0 b c in let p = at_place t 0 g.0 g.1 in (g.0, p.0, p.1, g.2)
+
 -- two lines are too many if only one incarnation is listed
 two_for_one : (a : Incarnation) (lacking is : List Incarnation) (h i : Handing) → AllZip IsHandingFor is (h ∷ i ∷ []) → a ∷ [] ≡ is ++ lacking → ⊥
 two_for_one a lacking [] h i z w = z
@@ -175,52 +175,35 @@ last_is_halt t (before, e) = ap last_of e ∙ ends before
     ends (y ∷ b) = last_or_halt y b
 
 late_at : (lacking : List Incarnation) (k : ℕ) → IsAt traces.reaches_a_late_starter 0 lacking k → ⊥
-late_at lacking zero a = let e : false ≡ true = a.passes in absurd (cc)
-late_at lacking (suc zero) a = let e : false ≡ true = a.passes in absurd (cc)
 late_at lacking (suc (suc zero)) a = two_for_one _ lacking a.reached _ _ a.in_turn a.whole
-late_at lacking (suc (suc (suc k))) a = let e : false ≡ true = a.passes in absurd (cc)
+late_at lacking x a = let e : false ≡ true = a.passes in absurd (cc)
 
 late : HandedOn traces.reaches_a_late_starter → ⊥
 late h =
-    let b : 0 < h.handed = h.none_above 0 some (omega arith) in
-    let g = h.to_all 0 b (1, omega arith, refl) in
-    let p = at_place _ 0 g.0 g.1 in
-    late_at g.0 p.0 p.1
+    let p = placed _ h (h.none_above 0 some (omega arith)) (1, omega arith, refl) in
+    late_at p.0 p.1 p.2
 
 oldest_at : (lacking : List Incarnation) (k : ℕ) → IsAt traces.oldest_first 0 lacking k → ⊥
-oldest_at lacking zero a = let e : false ≡ true = a.passes in absurd (cc)
-oldest_at lacking (suc zero) a = let e : false ≡ true = a.passes in absurd (cc)
-oldest_at lacking (suc (suc zero)) a = let e : false ≡ true = a.passes in absurd (cc)
 oldest_at lacking (suc (suc (suc zero))) a = unequal 5 6 refl (first_is _ _ lacking a.reached _ _ a.in_turn a.whole).process
-oldest_at lacking (suc (suc (suc (suc k)))) a = let e : false ≡ true = a.passes in absurd (cc)
+oldest_at lacking x a = let e : false ≡ true = a.passes in absurd (cc)
 
 oldest : HandedOn traces.oldest_first → ⊥
 oldest h =
-    let b : 0 < h.handed = h.none_above 0 some (omega arith) in
-    let g = h.to_all 0 b (2, omega arith, refl) in
-    let p = at_place _ 0 g.0 g.1 in
-    oldest_at g.0 p.0 p.1
+    let p = placed _ h (h.none_above 0 some (omega arith)) (2, omega arith, refl) in
+    oldest_at p.0 p.1 p.2
 
 incarnation_at : (lacking : List Incarnation) (k : ℕ) → IsAt traces.taken_by_another_incarnation 0 lacking k → ⊥
-incarnation_at lacking zero a = let e : false ≡ true = a.passes in absurd (cc)
-incarnation_at lacking (suc zero) a = let e : false ≡ true = a.passes in absurd (cc)
-incarnation_at lacking (suc (suc zero)) a = let e : false ≡ true = a.passes in absurd (cc)
 incarnation_at lacking (suc (suc (suc zero))) a = let e : true ≡ false = (second_is _ _ _ lacking a.reached _ _ _ a.in_turn a.whole).taken in absurd (cc)
-incarnation_at lacking (suc (suc (suc (suc k)))) a = let e : false ≡ true = a.passes in absurd (cc)
+incarnation_at lacking x a = let e : false ≡ true = a.passes in absurd (cc)
 
 incarnation : HandedOn traces.taken_by_another_incarnation → ⊥
 incarnation h =
-    let b : 0 < h.handed = h.none_above 0 some (omega arith) in
-    let g = h.to_all 0 b (2, omega arith, refl) in
-    let p = at_place _ 0 g.0 g.1 in
-    incarnation_at g.0 p.0 p.1
+    let p = placed _ h (h.none_above 0 some (omega arith)) (2, omega arith, refl) in
+    incarnation_at p.0 p.1 p.2
 
 lacks_at : (lacking : List Incarnation) (k : ℕ) → IsAt traces.lacks_a_line 0 lacking k → lacking ≡ [] → ⊥
-lacks_at lacking zero a f = let e : false ≡ true = a.passes in absurd (cc)
-lacks_at lacking (suc zero) a f = let e : false ≡ true = a.passes in absurd (cc)
-lacks_at lacking (suc (suc zero)) a f = let e : false ≡ true = a.passes in absurd (cc)
 lacks_at lacking (suc (suc (suc zero))) a f = one_for_two _ _ lacking a.reached _ a.in_turn a.whole f
-lacks_at lacking (suc (suc (suc (suc k)))) a f = let e : false ≡ true = a.passes in absurd (cc)
+lacks_at lacking x a f = let e : false ≡ true = a.passes in absurd (cc)
 
 no_halt : EndsInHalt traces.lacks_a_line → ⊥
 unfolding last_of last_or
@@ -228,40 +211,28 @@ no_halt e = let f : Take 0 6 ≡ Halt = last_is_halt traces.lacks_a_line e in ab
 
 lacks : HandedOn traces.lacks_a_line → ⊥
 lacks h =
-    let b : 0 < h.handed = h.none_above 0 some (omega arith) in
-    let g = h.to_all 0 b (2, omega arith, refl) in
-    let p = at_place _ 0 g.0 g.1 in
-    elim g.2 [ inl e ↦ lacks_at g.0 p.0 p.1 e | inr e ↦ no_halt e.1 ]
+    let p = placed _ h (h.none_above 0 some (omega arith)) (2, omega arith, refl) in
+    elim p.3 [ inl e ↦ lacks_at p.0 p.1 p.2 e | inr e ↦ no_halt e.1 ]
 
 lacks_first_at : (lacking : List Incarnation) (k : ℕ) → IsAt traces.lacks_the_first_line 0 lacking k → ⊥
-lacks_first_at lacking zero a = let e : false ≡ true = a.passes in absurd (cc)
-lacks_first_at lacking (suc zero) a = let e : false ≡ true = a.passes in absurd (cc)
-lacks_first_at lacking (suc (suc zero)) a = let e : false ≡ true = a.passes in absurd (cc)
 lacks_first_at lacking (suc (suc (suc zero))) a = unequal 5 6 refl (first_is _ _ lacking a.reached _ _ a.in_turn a.whole).process
-lacks_first_at lacking (suc (suc (suc (suc k)))) a = let e : false ≡ true = a.passes in absurd (cc)
+lacks_first_at lacking x a = let e : false ≡ true = a.passes in absurd (cc)
 
 lacks_first : HandedOn traces.lacks_the_first_line → ⊥
 lacks_first h =
-    let b : 0 < h.handed = h.none_above 0 some (omega arith) in
-    let g = h.to_all 0 b (2, omega arith, refl) in
-    let p = at_place _ 0 g.0 g.1 in
-    lacks_first_at g.0 p.0 p.1
+    let p = placed _ h (h.none_above 0 some (omega arith)) (2, omega arith, refl) in
+    lacks_first_at p.0 p.1 p.2
 
 lacks_earlier_at : (lacking : List Incarnation) (k : ℕ) → IsAt traces.lacks_an_earlier_line 0 lacking k → lacking ≡ [] → ⊥
-lacks_earlier_at lacking zero a f = let e : false ≡ true = a.passes in absurd (cc)
-lacks_earlier_at lacking (suc zero) a f = let e : false ≡ true = a.passes in absurd (cc)
-lacks_earlier_at lacking (suc (suc zero)) a f = let e : false ≡ true = a.passes in absurd (cc)
 lacks_earlier_at lacking (suc (suc (suc zero))) a f = one_for_two _ _ lacking a.reached _ a.in_turn a.whole f
 lacks_earlier_at lacking (suc (suc (suc (suc zero)))) a f = one_for_two _ _ lacking a.reached _ a.in_turn a.whole f
-lacks_earlier_at lacking (suc (suc (suc (suc (suc k))))) a f = let e : false ≡ true = a.passes in absurd (cc)
+lacks_earlier_at lacking x a f = let e : false ≡ true = a.passes in absurd (cc)
 
 lacks_earlier : HandedOn traces.lacks_an_earlier_line → ⊥
 lacks_earlier h =
-    let b : 0 < h.handed = h.none_above 0 some (omega arith) in
     let c : 1 < h.handed = h.none_above 1 some (omega arith) in
-    let g = h.to_all 0 b (2, omega arith, refl) in
-    let p = at_place _ 0 g.0 g.1 in
-    elim g.2 [ inl e ↦ lacks_earlier_at g.0 p.0 p.1 e | inr e ↦ (let f = e.0 in omega (arith, f)) ]
+    let p = placed _ h (h.none_above 0 some (omega arith)) (2, omega arith, refl) in
+    elim p.3 [ inl e ↦ lacks_earlier_at p.0 p.1 p.2 e | inr e ↦ (let f = e.0 in omega (arith, f)) ]
 
 pub broken : TracesThatDoNotDeliver
 broken = record {

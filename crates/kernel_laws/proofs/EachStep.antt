@@ -88,9 +88,7 @@ without_process s p = with_line (unlisted_of (with_exiting s p false) p) (what.L
 pub enlist_is : (s : KernelState) (p : Proc) → enlist_of s p ≡ Goes tt (with_started s p)
 unfolding enlist_of write_of with_state
 enlist_is s (Own p) = refl
-enlist_is s Etimer = refl
-enlist_is s Ctimer = refl
-enlist_is s Radio = refl
+enlist_is s x = refl
 
 stepped_fits : (variables : Option (List ℕ)) (s : KernelState) (code : Code) (r : Remainder) (p : ℕ) (e : Event) → FitsStep (stepped_with variables s code r p e).step
 stepped_fits (Some variables) s code r p e = fits_advanced code e (looks_of s) r variables s.units
@@ -177,60 +175,17 @@ module _ (Keeps Stops : KernelState → KernelState → Type 0) where
     keeps_cases s true t u h i = h refl
     keeps_cases s false t u h i = i refl
 
-    -- a property of all states
-    abbrev Anywhere : KernelState → Type 0
-    Anywhere s = Unit {0}
+    pub lead_cases : (A : Type 0) (s : KernelState) (b : Bool) (o p : Outcome A) → (b ≡ true → Lead A s o) → (b ≡ false → Lead A s p) → Lead A s (if b then o else p)
+    lead_cases A s true o p h i = h refl
+    lead_cases A s false o p h i = i refl
 
-    anywhere : (s t : KernelState) → Keeps s t → Anywhere s → Anywhere t
-    anywhere s t k x = tt
+    lead_option : (A X : Type 0) (s : KernelState) (x : Option X) (o : Outcome A) (f : X → Outcome A) → Lead A s o → ((y : X) → Lead A s (f y)) → Lead A s (elim x [ None ↦ o | Some y ↦ f y ])
+    lead_option A X s None o f h i = h
+    lead_option A X s (Some y) o f h i = i y
 
-    single : (A : Type 0) (s : KernelState) (o : Outcome A) → Leads s o → Lead A s o
-    single A s o h = record { leads = h }
-
-    -- A rule with two sets of calls: with each set it is made of steps, and from a state with the property `Holds`
-    -- both outcomes are the same.
-    module _ (Holds : KernelState → Type 0) where
-      pub record Both (A : Type 0) (s : KernelState) (o q : Outcome A) : Type 0 where
-        pub leads : Leads s o
-        pub same : Holds s → o ≡ q
-
-      pub both_plain : (A : Type 0) (s : KernelState) (o : Outcome A) → Lead A s o → Both A s o o
-      both_plain A s o h = record { leads = h.leads; same = λ x. refl }
-
-      both_still : (A : Type 0) (s : KernelState) (a : A) → Both A s (Goes a s) (Goes a s)
-      both_still A s a = both_plain A s (Goes a s) (lead_still A s a)
-
-      both_goes : (A : Type 0) (s : KernelState) (a : A) (t : KernelState) → Keeps s t → Both A s (Goes a t) (Goes a t)
-      both_goes A s a t h = both_plain A s (Goes a t) (lead_goes A s a t h)
-
-      both_if : (A : Type 0) (s : KernelState) (b : Bool) (o p o' p' : Outcome A) → Both A s o o' → Both A s p p' → Both A s (if b then o else p) (if b then o' else p')
-      both_if A s true o p o' p' h i = h
-      both_if A s false o p o' p' h i = i
-
-      both_cases : (A : Type 0) (s : KernelState) (b : Bool) (o p o' p' : Outcome A) → (b ≡ true → Both A s o o') → (b ≡ false → Both A s p p') → Both A s (if b then o else p) (if b then o' else p')
-      both_cases A s true o p o' p' h i = h refl
-      both_cases A s false o p o' p' h i = i refl
-
-      both_option : (A X : Type 0) (s : KernelState) (x : Option X) (o o' : Outcome A) (f g : X → Outcome A) → Both A s o o' → ((y : X) → Both A s (f y) (g y)) → Both A s (elim x [ None ↦ o | Some y ↦ f y ]) (elim x [ None ↦ o' | Some y ↦ g y ])
-      both_option A X s None o o' f g h i = h
-      both_option A X s (Some y) o o' f g h i = i y
-
-      both_nested : (A B C : Type 0) (s : KernelState) (o q : Outcome A) (f f' : A → KernelState → Outcome B) (g g' : B → KernelState → Outcome C) → Both C s ((o >>= f) >>= g) ((q >>= f') >>= g') → Both C s (o >>= λ a t. (f a t >>= g)) (q >>= λ a t. (f' a t >>= g'))
-      both_nested A B C s (Ends t) (Ends u) f f' g g' r = r
-      both_nested A B C s (Ends t) (Goes b u) f f' g g' r = r
-      both_nested A B C s (Goes a t) (Ends u) f f' g g' r = r
-      both_nested A B C s (Goes a t) (Goes b u) f f' g g' r = r
-
-      module _ (on : (s t : KernelState) → Keeps s t → Holds s → Holds t) where
-        both_from : (A : Type 0) (s t : KernelState) (o q : Outcome A) → Keeps s t → Both A t o q → Both A s o q
-        both_from A s t o q h i = record { leads = from_leads A s t o h i.leads; same = λ x. i.same (on s t h x) }
-
-        both_bind : (A B : Type 0) (s : KernelState) (o q : Outcome A) (f g : A → KernelState → Outcome B) → Both A s o q → ((a : A) (t : KernelState) → Both B t (f a t) (g a t)) → Both B s (o >>= f) (q >>= g)
-        both_bind A B s (Ends t) q f g h go = record { leads = h.leads; same = λ x. ap (λ y. y >>= g) (h.same x) }
-        both_bind A B s (Goes a t) q f g h go = record {
-          leads = from_leads B s t (f a t) h.leads (go a t).leads;
-          same = λ x. (go a t).same (on s t h.leads x) ∙ ap (λ y. y >>= g) (h.same x);
-        }
+    lead_nested : (A B C : Type 0) (s : KernelState) (o : Outcome A) (f : A → KernelState → Outcome B) (g : B → KernelState → Outcome C) → Lead C s ((o >>= f) >>= g) → Lead C s (o >>= λ a t. (f a t >>= g))
+    lead_nested A B C s (Ends t) f g r = r
+    lead_nested A B C s (Goes a t) f g r = r
 
     -- A post, a packet, and a timer that is set, if each of their parts is a step.
 
@@ -274,19 +229,6 @@ module _ (Keeps Stops : KernelState → KernelState → Type 0) where
           lead_knowing _ _ (Handed receiver (record s { ring = later }) a) s _ _ (hand_led receiver a later s ring r) (hand_tells receiver (record s { ring = later }) a)
           (λ u t h. empty_led receiver later t h.0.ring (ap (λ p. p.receiver) h.0.program ∙ r))
 
-    -- the polls, if a call with POLL consists of steps
-    module _ (Holds : KernelState → Type 0) (on : (s t : KernelState) → Keeps s t → Holds s → Holds t) (unrequested : (s : KernelState) → Keeps s (record s { poll_requested = false })) (cleared : (s : KernelState) (p : Proc) → Keeps s (with_needs_poll s p false))
-        (a b : Calls) (polled : (s : KernelState) (p : Proc) → Both Holds (Unit {0}) s (a.call s p (own_event Poll 0)) (b.call s p (own_event Poll 0))) where
-      pub polls_both : (ms : List Member) (s : KernelState) → Both Holds (Unit {0}) s (walk_polls a ms s) (walk_polls b ms s)
-      unfolding poll_turn_of
-      polls_both [] s = both_still Holds _ s tt
-      polls_both (m ∷ ms) s =
-          both_bind Holds on _ _ s _ _ _ _ (both_if Holds _ s _ _ _ _ _ (both_from Holds on _ s _ _ _ (cleared s m.process) (polled _ m.process)) (both_still Holds _ s tt)) (λ a t. polls_both ms t)
-
-      pub polls_due_both : (s : KernelState) → Both Holds (Unit {0}) s (do_poll_if_requested a s) (do_poll_if_requested b s)
-      unfolding do_poll_if_requested do_poll
-      polls_due_both s = both_if Holds _ s s.poll_requested _ _ _ _ (both_from Holds on _ s _ _ _ (unrequested s) (polls_both s.members _)) (both_still Holds _ s tt)
-
     -- the steps of boots and kernel runs outside of calls
     pub record AreRunSteps : Type 0 where
       pub unrequested : (s : KernelState) → Keeps s (record s { poll_requested = false })
@@ -295,71 +237,55 @@ module _ (Keeps Stops : KernelState → KernelState → Type 0) where
       pub takes : (s : KernelState) (serial : ℕ) (p : Proc) → Keeps s (with_line s (what.Take serial p))
       pub drops : (s : KernelState) (serial : ℕ) (p : Proc) → Keeps s (with_line s (what.Drop serial p))
 
-    -- boots and kernel runs, if each call consists of steps
-    module _ (Holds : KernelState → Type 0) (on : (s t : KernelState) → Keeps s t → Holds s → Holds t) (steps : AreRunSteps) (a b : Calls)
-        (called : (s : KernelState) (p : Proc) (e : Event) → Both Holds (Unit {0}) s (a.call s p e) (b.call s p e)) where
-      due_polls_both : (s : KernelState) → Both Holds (Unit {0}) s (do_poll_if_requested a s) (do_poll_if_requested b s)
-      due_polls_both s = polls_due_both Holds on steps.unrequested steps.cleared a b (λ t p. called t p _) s
-
-      pub give_both : (s : KernelState) (x : Posted) (p : Proc) (there : Bool) → Both Holds (Unit {0}) s (give_of a s x p there) (give_of b s x p there)
-      unfolding give_of write_of
-      give_both s x p there =
-          both_if Holds _ s there _ _ _ _ (both_from Holds on _ s _ _ _ (steps.takes s x.serial p) (called _ p x.event)) (both_goes Holds _ s tt _ (steps.drops s x.serial p))
-
-      walk_broadcast_both : (x : Posted) (ms : List Member) (s : KernelState) → Both Holds (Unit {0}) s (walk_broadcast a x ms s) (walk_broadcast b x ms s)
-      unfolding visit_of
-      walk_broadcast_both x [] s = both_still Holds _ s tt
-      walk_broadcast_both x (m ∷ ms) s =
-          both_bind Holds on _ _ s _ _ _ _ (both_bind Holds on _ _ s _ _ _ _ (due_polls_both s) (λ a t. give_both t x m.process (is_on_list t m))) (λ a t. walk_broadcast_both x ms t)
-
-      target_both : (target : Target) (s : KernelState) (x : Posted) → Both Holds (Unit {0}) s (deliver_to target a s x) (deliver_to target b s x)
-      target_both (One p) s x = give_both s x p (is_listed s p)
-      target_both ToEach s x = walk_broadcast_both x s.members s
-
-      pub front_both : (q : List Posted) (s : KernelState) → Both Holds (Unit {0}) s (do_event a q s) (do_event b q s)
-      unfolding deliver_of
-      front_both [] s = both_still Holds _ s tt
-      front_both (x ∷ q) s = both_from Holds on _ s _ _ _ (steps.front s) (target_both x.target _ x)
-
-      pub kernel_both : (s : KernelState) → Both Holds ℕ s (process_run a s) (process_run b s)
-      unfolding process_run
-      kernel_both s =
-          both_bind Holds on _ _ s _ _ _ _ (due_polls_both s) (λ a t. both_bind Holds on _ _ t _ _ _ _ (front_both t.queue.events t) (λ b u. both_still Holds _ u _))
-
-    module _ (Holds : KernelState → Type 0) (on : (s t : KernelState) → Keeps s t → Holds s → Holds t) (a b : Calls) (started : (s : KernelState) (p : Proc) → Both Holds (Unit {0}) s (process_start a s p) (process_start b s p)) where
-      starts_both : (ps : List Proc) (s : KernelState) → Both Holds (Unit {0}) s (autostart_start a ps s) (autostart_start b ps s)
-      starts_both [] s = both_still Holds _ s tt
-      starts_both (p ∷ ps) s = both_bind Holds on _ _ s _ _ _ _ (started s p) (λ u t. starts_both ps t)
-
-      pub boot_both : (s : KernelState) → Both Holds ℕ s (boot_of a s) (boot_of b s)
-      unfolding boot_of
-      boot_both s = both_bind Holds on _ _ s _ _ _ _ (starts_both (Etimer ∷ Ctimer ∷ Radio ∷ map Own s.program.autostart) s) (λ u t. both_still Holds _ t _)
-
-    -- the same with one set of calls
     module _ (calls : Calls) where
+      -- the polls, if a call with POLL consists of steps
       pub polls_led : ((s : KernelState) → Keeps s (record s { poll_requested = false })) → ((s : KernelState) (p : Proc) → Keeps s (with_needs_poll s p false)) → ((s : KernelState) (p : Proc) → Lead (Unit {0}) s (calls.call s p (own_event Poll 0)))
           → (ms : List Member) (s : KernelState) → Lead (Unit {0}) s (walk_polls calls ms s)
-      polls_led unrequested cleared polled ms s = single _ s _ (polls_both Anywhere anywhere unrequested cleared calls calls (λ t p. both_plain Anywhere _ t _ (polled t p)) ms s).leads
+      unfolding poll_turn_of
+      polls_led unrequested cleared polled [] s = lead_still _ s tt
+      polls_led unrequested cleared polled (m ∷ ms) s =
+          lead_bind _ _ s _ _ (lead_if _ s _ _ _ (lead_from _ s _ _ (cleared s m.process) (polled _ m.process)) (lead_still _ s tt)) (λ a t. polls_led unrequested cleared polled ms t)
 
       pub polls_due_led : ((s : KernelState) → Keeps s (record s { poll_requested = false })) → ((s : KernelState) (p : Proc) → Keeps s (with_needs_poll s p false)) → ((s : KernelState) (p : Proc) → Lead (Unit {0}) s (calls.call s p (own_event Poll 0)))
           → (s : KernelState) → Lead (Unit {0}) s (do_poll_if_requested calls s)
-      polls_due_led unrequested cleared polled s = single _ s _ (polls_due_both Anywhere anywhere unrequested cleared calls calls (λ t p. both_plain Anywhere _ t _ (polled t p)) s).leads
+      unfolding do_poll_if_requested do_poll
+      polls_due_led unrequested cleared polled s = lead_if _ s s.poll_requested _ _ (lead_from _ s _ _ (unrequested s) (polls_led unrequested cleared polled s.members _)) (lead_still _ s tt)
+
+      starts_led : ((s : KernelState) (p : Proc) → Lead (Unit {0}) s (process_start calls s p)) → (ps : List Proc) (s : KernelState) → Lead (Unit {0}) s (autostart_start calls ps s)
+      starts_led started [] s = lead_still _ s tt
+      starts_led started (p ∷ ps) s = lead_bind _ _ s _ _ (started s p) (λ u t. starts_led started ps t)
 
       pub boot_led : ((s : KernelState) (p : Proc) → Lead (Unit {0}) s (process_start calls s p)) → (s : KernelState) → Lead ℕ s (boot_of calls s)
-      boot_led started s = single _ s _ (boot_both Anywhere anywhere calls calls (λ t p. both_plain Anywhere _ t _ (started t p)) s).leads
+      unfolding boot_of
+      boot_led started s = lead_bind _ _ s _ _ (starts_led started (Etimer ∷ Ctimer ∷ Radio ∷ map Own s.program.autostart) s) (λ u t. lead_still _ t _)
 
+      -- kernel runs, if each call consists of steps
       module _ (steps : AreRunSteps) (called : (s : KernelState) (p : Proc) (e : Event) → Lead (Unit {0}) s (calls.call s p e)) where
-        called_twice : (s : KernelState) (p : Proc) (e : Event) → Both Anywhere (Unit {0}) s (calls.call s p e) (calls.call s p e)
-        called_twice s p e = both_plain Anywhere _ s _ (called s p e)
+        due_polls_led : (s : KernelState) → Lead (Unit {0}) s (do_poll_if_requested calls s)
+        due_polls_led s = polls_due_led steps.unrequested steps.cleared (λ t p. called t p _) s
 
         pub give_led : (s : KernelState) (x : Posted) (p : Proc) (there : Bool) → Lead (Unit {0}) s (give_of calls s x p there)
-        give_led s x p there = single _ s _ (give_both Anywhere anywhere steps calls calls called_twice s x p there).leads
+        unfolding give_of write_of
+        give_led s x p there = lead_if _ s there _ _ (lead_from _ s _ _ (steps.takes s x.serial p) (called _ p x.event)) (lead_goes _ s tt _ (steps.drops s x.serial p))
+
+        walk_broadcast_led : (x : Posted) (ms : List Member) (s : KernelState) → Lead (Unit {0}) s (walk_broadcast calls x ms s)
+        unfolding visit_of
+        walk_broadcast_led x [] s = lead_still _ s tt
+        walk_broadcast_led x (m ∷ ms) s =
+            lead_bind _ _ s _ _ (lead_bind _ _ s _ _ (due_polls_led s) (λ a t. give_led t x m.process (is_on_list t m))) (λ a t. walk_broadcast_led x ms t)
+
+        target_led : (target : Target) (s : KernelState) (x : Posted) → Lead (Unit {0}) s (deliver_to target calls s x)
+        target_led (One p) s x = give_led s x p (is_listed s p)
+        target_led ToEach s x = walk_broadcast_led x s.members s
 
         pub front_led : (q : List Posted) (s : KernelState) → Lead (Unit {0}) s (do_event calls q s)
-        front_led q s = single _ s _ (front_both Anywhere anywhere steps calls calls called_twice q s).leads
+        unfolding deliver_of
+        front_led [] s = lead_still _ s tt
+        front_led (x ∷ q) s = lead_from _ s _ _ (steps.front s) (target_led x.target _ x)
 
         pub kernel_led : (s : KernelState) → Lead ℕ s (process_run calls s)
-        kernel_led s = single _ s _ (kernel_both Anywhere anywhere steps calls calls called_twice s).leads
+        unfolding process_run
+        kernel_led s = lead_bind _ _ s _ _ (due_polls_led s) (λ a t. lead_bind _ _ t _ _ (front_led t.queue.events t) (λ b u. lead_still _ u _))
 
     -- the processes that may be exited, and the processes of the program that are observed
     module _ (Leaves : Proc → Type 0) (Ours : ℕ → Type 0) where
@@ -428,12 +354,6 @@ module _ (Keeps Stops : KernelState → KernelState → Type 0) where
         pub call : (s : KernelState) (p : Proc) (e : Event) → Fits p e.number → Lead (Unit {0}) s (calls.call s p e)
         pub run : (s : KernelState) (code : Code) (r : Remainder) (p : ℕ) (e : Event) → Ours p → Lead Answer s (calls.run s code r p e)
         pub callback : (s : KernelState) (code : Code) (p : ℕ) (e : Event) → slice_get s.program.codes p ≡ Some code → Lead Answer s (calls.run s code (fresh_of code (Callback e.word)) p e)
-
-      -- the same with two sets of calls
-      pub record AreBoth (Holds : KernelState → Type 0) (a b : Calls) : Type 0 where
-        pub call : (s : KernelState) (p : Proc) (e : Event) → Fits p e.number → Both Holds (Unit {0}) s (a.call s p e) (b.call s p e)
-        pub run : (s : KernelState) (code : Code) (r : Remainder) (p : ℕ) (e : Event) → Ours p → Both Holds Answer s (a.run s code r p e) (b.run s code r p e)
-        pub callback : (s : KernelState) (code : Code) (p : ℕ) (e : Event) → slice_get s.program.codes p ≡ Some code → Both Holds Answer s (a.run s code (fresh_of code (Callback e.word)) p e) (b.run s code (fresh_of code (Callback e.word)) p e)
 
       -- the conditions of an operation of the current process
       abbrev pub Allowed : (current : ℕ) → Op → Type 0
@@ -544,57 +464,54 @@ module _ (Keeps Stops : KernelState → KernelState → Type 0) where
         unfolding radio_process
         radio_led s e = lead_if _ s (is_system_event Poll e) _ _ (empty_led steps.ring s.program.receiver s.ring s refl refl) (lead_still _ s tt)
 
-        module _ (Holds : KernelState → Type 0) (on : (s t : KernelState) → Keeps s t → Holds s → Holds t) (opens : (s : KernelState) (p : Proc) → Holds s → Holds (with_state s p Called)) (exits : (s : KernelState) (p : Proc) → Holds s → Holds (exiting_of s p))
-            (a b : Calls) (are : AreBoth Holds a b) where
-          walk_both : (e : Event) → (is_system_event Exit e) ≡ false → (p : Proc) (ms : List Member) (s : KernelState) → Both Holds (Unit {0}) s (walk_of a e p ms s) (walk_of b e p ms s)
-          walk_both e f p [] s = both_still Holds _ s tt
-          walk_both e f p (m ∷ ms) s =
-              both_bind Holds on _ _ s _ _ _ _ (both_if Holds _ s _ _ _ _ _ (are.call s m.process e (fits_no_exit m.process e.number f)) (both_still Holds _ s tt)) (λ a t. walk_both e f p ms t)
+        module _ (calls : Calls) (are : AreLed calls) where
+          walk_led : (e : Event) → (is_system_event Exit e) ≡ false → (p : Proc) (ms : List Member) (s : KernelState) → Lead (Unit {0}) s (walk_of calls e p ms s)
+          walk_led e f p [] s = lead_still _ s tt
+          walk_led e f p (m ∷ ms) s =
+              lead_bind _ _ s _ _ (lead_if _ s _ _ _ (are.call s m.process e (fits_no_exit m.process e.number f)) (lead_still _ s tt)) (λ a t. walk_led e f p ms t)
 
-          handler_both : (s : KernelState) (code : Code) (p : ℕ) (e : Event) → Ours p → Both Holds (Unit {0}) s (handler_of a s code p e) (handler_of b s code p e)
+          handler_led : (s : KernelState) (code : Code) (p : ℕ) (e : Event) → Ours p → Lead (Unit {0}) s (handler_of calls s code p e)
           unfolding handler_of
-          handler_both s code p e o =
-              both_if Holds _ s (is_system_event Poll e) _ _ _ _ (both_bind Holds on _ _ s _ _ _ _ (are.run s code (fresh_of code OnPoll) p e o) (λ a t. both_still Holds _ t tt))
-              (both_if Holds _ s (is_system_event Exit e) _ _ _ _ (both_bind Holds on _ _ s _ _ _ _ (are.run s code (fresh_of code OnExit) p e o) (λ a t. both_still Holds _ t tt)) (both_still Holds _ s tt))
+          handler_led s code p e o =
+              lead_if _ s (is_system_event Poll e) _ _ (lead_bind _ _ s _ _ (are.run s code (fresh_of code OnPoll) p e o) (λ a t. lead_still _ t tt))
+              (lead_if _ s (is_system_event Exit e) _ _ (lead_bind _ _ s _ _ (are.run s code (fresh_of code OnExit) p e o) (λ a t. lead_still _ t tt)) (lead_still _ s tt))
 
-          resume_both : (s : KernelState) (code : Code) (p : ℕ) (e : Event) → Ours p → Both Holds PtState s (resume_of a s code p e) (resume_of b s code p e)
+          resume_led : (s : KernelState) (code : Code) (p : ℕ) (e : Event) → Ours p → Lead PtState s (resume_of calls s code p e)
           unfolding resume_of
-          resume_both s code p e o =
-              both_bind Holds on _ _ s _ _ _ _ (both_from Holds on _ s (with_fresh_body s p) _ _ (steps.fresh s p o) (are.run _ code _ p e o)) (λ a t. both_goes Holds _ t _ _ (steps.remainder t p _ o))
+          resume_led s code p e o =
+              lead_bind _ _ s _ _ (lead_from _ s (with_fresh_body s p) _ (steps.fresh s p o) (are.run _ code _ p e o)) (λ a t. lead_goes _ t _ _ (steps.remainder t p _ o))
 
-          own_both : (s : KernelState) (p : ℕ) (e : Event) → Ours p → Both Holds PtState s (own_of a s p e) (own_of b s p e)
+          own_led : (s : KernelState) (p : ℕ) (e : Event) → Ours p → Lead PtState s (own_of calls s p e)
           unfolding own_of
-          own_both s p e o =
-              both_option Holds PtState Code s (slice_get s.program.codes p) (Goes Ended s) (Goes Ended s) (λ code. handler_of a s code p e >>= λ u t. resume_of a t code p e) (λ code. handler_of b s code p e >>= λ u t. resume_of b t code p e) (both_still Holds _ s Ended) (λ code. both_bind Holds on _ _ s _ _ _ _ (handler_both s code p e o) (λ u t. resume_both t code p e o))
+          own_led s p e o =
+              lead_option PtState Code s (slice_get s.program.codes p) (Goes Ended s) (λ code. handler_of calls s code p e >>= λ u t. resume_of calls t code p e) (lead_still _ s Ended) (λ code. lead_bind _ _ s _ _ (handler_led s code p e o) (λ u t. resume_led t code p e o))
 
-          code_both : (s : KernelState) (e : Event) (p : ℕ) (code : Option Code) → slice_get s.program.codes p ≡ code → Both Holds (Unit {0}) s (elim code [ None ↦ Goes tt s | Some c ↦ a.run s c (fresh_of c (Callback e.word)) p e >>= λ _ s1. Goes tt s1 ]) (elim code [ None ↦ Goes tt s | Some c ↦ b.run s c (fresh_of c (Callback e.word)) p e >>= λ _ s1. Goes tt s1 ])
-          code_both s e p None is = both_still Holds _ s tt
-          code_both s e p (Some c) is = both_bind Holds on _ _ s _ _ _ _ (are.callback s c p e is) (λ a t. both_still Holds _ t tt)
+          code_led : (s : KernelState) (e : Event) (p : ℕ) (code : Option Code) → slice_get s.program.codes p ≡ code → Lead (Unit {0}) s (elim code [ None ↦ Goes tt s | Some c ↦ calls.run s c (fresh_of c (Callback e.word)) p e >>= λ _ s1. Goes tt s1 ])
+          code_led s e p None is = lead_still _ s tt
+          code_led s e p (Some c) is = lead_bind _ _ s _ _ (are.callback s c p e is) (λ a t. lead_still _ t tt)
 
-          callback_both : (s : KernelState) (e : Event) → Both Holds (Unit {0}) s (callback_of a s e) (callback_of b s e)
+          callback_led : (s : KernelState) (e : Event) → Lead (Unit {0}) s (callback_of calls s e)
           unfolding callback_of
-          callback_both s e =
-              both_option Holds (Unit {0}) TimerOfProgram s (slice_get s.program.timers e.word) (Goes tt s) (Goes tt s) _ _ (both_still Holds _ s tt) (λ t. code_both s e t.process (slice_get s.program.codes t.process) refl)
+          callback_led s e = lead_option (Unit {0}) TimerOfProgram s (slice_get s.program.timers e.word) (Goes tt s) _ (lead_still _ s tt) (λ t. code_led s e t.process (slice_get s.program.codes t.process) refl)
 
-          ctimer_both : (s : KernelState) (e : Event) → Both Holds (Unit {0}) s (ctimer_process a s e) (ctimer_process b s e)
+          ctimer_led : (s : KernelState) (e : Event) → Lead (Unit {0}) s (ctimer_process calls s e)
           unfolding ctimer_process
-          ctimer_both s e =
-              both_if Holds _ s (is_system_event Timer e && waits_for s e.word) _ _ _ _ (both_from Holds on _ s _ _ _ (steps.callbacks s _) (callback_both _ e)) (both_still Holds _ s tt)
+          ctimer_led s e = lead_if _ s (is_system_event Timer e && waits_for s e.word) _ _ (lead_from _ s _ _ (steps.callbacks s _) (callback_led _ e)) (lead_still _ s tt)
 
-          react_both : (s : KernelState) (p : Proc) (e : Event) → IsOurs p → Both Holds PtState s (react_of a s p e) (react_of b s p e)
+          react_led : (s : KernelState) (p : Proc) (e : Event) → IsOurs p → Lead PtState s (react_of calls s p e)
           unfolding react_of
-          react_both s (Own p) e o = own_both s p e o
-          react_both s Etimer e o = both_bind Holds on _ _ s _ _ _ _ (both_plain Holds _ _ _ (etimer_led s e)) (λ u t. both_still Holds _ t Yielded)
-          react_both s Ctimer e o = both_bind Holds on _ _ s _ _ _ _ (ctimer_both s e) (λ u t. both_still Holds _ t Yielded)
-          react_both s Radio e o = both_bind Holds on _ _ s _ _ _ _ (both_plain Holds _ _ _ (radio_led s e)) (λ u t. both_still Holds _ t Yielded)
+          react_led s (Own p) e o = own_led s p e o
+          react_led s Etimer e o = lead_bind _ _ s _ _ (etimer_led s e) (λ u t. lead_still _ t Yielded)
+          react_led s Ctimer e o = lead_bind _ _ s _ _ (ctimer_led s e) (λ u t. lead_still _ t Yielded)
+          react_led s Radio e o = lead_bind _ _ s _ _ (radio_led s e) (λ u t. lead_still _ t Yielded)
 
-          last_run_both : (s : KernelState) (p : Proc) → IsOurs p → Both Holds (Unit {0}) s (last_run_of a s p) (last_run_of b s p)
+          last_run_led : (s : KernelState) (p : Proc) → IsOurs p → Lead (Unit {0}) s (last_run_of calls s p)
           unfolding last_run_of
-          last_run_both s p o = both_bind Holds on _ _ s _ _ _ _ (both_plain Holds _ _ _ (spend_led s)) (λ u t. both_bind Holds on _ _ t _ _ _ _ (react_both t p _ o) (λ a v. both_still Holds _ v tt))
+          last_run_led s p o = lead_bind _ _ s _ _ (spend_led s) (λ u t. lead_bind _ _ t _ _ (react_led t p _ o) (λ a v. lead_still _ v tt))
 
           -- the walk and the last run of a process that is being exited
-          exiting_both : (s : KernelState) (p f : Proc) (ms : List Member) → IsOurs p → Both Holds (Unit {0}) s (walk_of a (own_event Exited (process_number p)) p ms s >>= λ _ t. if is_same p f then Goes tt t else last_run_of a t p) (walk_of b (own_event Exited (process_number p)) p ms s >>= λ _ t. if is_same p f then Goes tt t else last_run_of b t p)
-          exiting_both s p f ms o = both_bind Holds on _ _ s _ _ _ _ (walk_both (own_event Exited (process_number p)) refl p ms s) (λ a t. both_if Holds _ t (is_same p f) _ _ _ _ (both_still Holds _ t tt) (last_run_both t p o))
+          exiting_led : (s : KernelState) (p f : Proc) (ms : List Member) → IsOurs p → Lead (Unit {0}) s (walk_of calls (own_event Exited (process_number p)) p ms s >>= λ _ t. if is_same p f then Goes tt t else last_run_of calls t p)
+          exiting_led s p f ms o = lead_bind _ _ s _ _ (walk_led (own_event Exited (process_number p)) refl p ms s) (λ a t. lead_if _ t (is_same p f) _ _ (lead_still _ t tt) (last_run_led t p o))
 
           left_led : (s t : KernelState) (p : Proc) (o : Went) → Leads t o → ((u : KernelState) → Keeps t u → Keeps s (without_process u p)) → ((u : KernelState) → Stops t u → Stops s u) → Leads s (o >>= λ _ u. leave_of u p)
           unfolding leave_of write_of
@@ -602,50 +519,50 @@ module _ (Keeps Stops : KernelState → KernelState → Type 0) where
           left_led s t p (Goes a u) h kept stopped = kept u h
 
           -- an exit that began in a state t and is a step from s on
-          leaves_both : (s t : KernelState) (p f : Proc) (ms : List Member) → IsOurs p → (Holds s → Holds t) → ((u : KernelState) → Keeps t u → Keeps s (without_process u p)) → ((u : KernelState) → Stops t u → Stops s u)
-              → Both Holds (Unit {0}) s (walk_of a (own_event Exited (process_number p)) p ms t >>= λ _ u. ((if is_same p f then Goes tt u else last_run_of a u p) >>= λ _ v. leave_of v p)) (walk_of b (own_event Exited (process_number p)) p ms t >>= λ _ u. ((if is_same p f then Goes tt u else last_run_of b u p) >>= λ _ v. leave_of v p))
-          leaves_both s t p f ms o holds kept stopped =
-              both_nested Holds (Unit {0}) (Unit {0}) (Unit {0}) s (walk_of a (own_event Exited (process_number p)) p ms t) (walk_of b (own_event Exited (process_number p)) p ms t) (λ _ u. if is_same p f then Goes tt u else last_run_of a u p) (λ _ u. if is_same p f then Goes tt u else last_run_of b u p) (λ _ v. leave_of v p) (λ _ v. leave_of v p)
-              (let h = exiting_both t p f ms o in record { leads = left_led s t p _ h.leads kept stopped; same = λ x. ap (λ y. y >>= λ _ v. leave_of v p) (h.same (holds x)) })
+          leaves_led : (s t : KernelState) (p f : Proc) (ms : List Member) → IsOurs p → ((u : KernelState) → Keeps t u → Keeps s (without_process u p)) → ((u : KernelState) → Stops t u → Stops s u)
+              → Lead (Unit {0}) s (walk_of calls (own_event Exited (process_number p)) p ms t >>= λ _ u. ((if is_same p f then Goes tt u else last_run_of calls u p) >>= λ _ v. leave_of v p))
+          leaves_led s t p f ms o kept stopped =
+              lead_nested (Unit {0}) (Unit {0}) (Unit {0}) s (walk_of calls (own_event Exited (process_number p)) p ms t) (λ _ u. if is_same p f then Goes tt u else last_run_of calls u p) (λ _ v. leave_of v p)
+              (record { leads = left_led s t p _ (exiting_led t p f ms o).leads kept stopped })
 
-          pub exit_both : (s : KernelState) (p f : Proc) → IsOurs p → Leaves p → is_busy s p ≡ false → Both Holds (Unit {0}) s (exit_process a s p f) (exit_process b s p f)
+          exit_led : (s : KernelState) (p f : Proc) → IsOurs p → Leaves p → is_busy s p ≡ false → Lead (Unit {0}) s (exit_process calls s p f)
           unfolding exit_process
-          exit_both s p f o l b =
-              both_cases Holds _ s (is_listed s p) _ _ _ _ (λ i. leaves_both s (exiting_of s p) p f s.members o (exits s p) (λ u k. steps.brackets.exit s u p o l b i k) (λ u k. steps.brackets.exit_stops s u p o l b i k)) (λ i. both_still Holds _ s tt)
+          exit_led s p f o l b =
+              lead_cases _ s (is_listed s p) _ _ (λ i. leaves_led s (exiting_of s p) p f s.members o (λ u k. steps.brackets.exit s u p o l b i k) (λ u k. steps.brackets.exit_stops s u p o l b i k)) (λ i. lead_still _ s tt)
 
           parts : (b c : Bool) → (b && not c) ≡ true → (b ≡ true) × (c ≡ false)
           parts true false e = (refl, refl)
           parts true true e = absurd (cc)
           parts false c e = absurd (cc)
 
-          pub start_both : (s : KernelState) (p : Proc) → IsOurs p → Both Holds (Unit {0}) s (process_start a s p) (process_start b s p)
+          pub start_led : (s : KernelState) (p : Proc) → IsOurs p → Lead (Unit {0}) s (process_start calls s p)
           unfolding process_start
-          start_both s p o =
-              both_cases Holds _ s (is_busy s p) _ _ _ _ (λ b. both_plain Holds _ s _ (busy_led s p)) (λ b. both_cases Holds _ s (has_process s p && not (is_listed s p)) _ _ _ _ (λ l.
+          start_led s p o =
+              lead_cases _ s (is_busy s p) _ _ (λ b. busy_led s p) (λ b. lead_cases _ s (has_process s p && not (is_listed s p)) _ _ (λ l.
               let h = parts (has_process s p) _ l in
-              both_bind Holds on _ _ s _ _ _ _ (both_plain Holds _ _ _ (enlist_led s p o b h.0 h.1)) (λ a t. are.call t p _ (fits_no_exit p _ refl))) (λ l. both_still Holds _ s tt))
+              lead_bind _ _ s _ _ (enlist_led s p o b h.0 h.1) (λ a t. are.call t p _ (fits_no_exit p _ refl))) (λ l. lead_still _ s tt))
 
-          pub kill_both : (s : KernelState) (p : Proc) (current : ℕ) → IsOurs p → Leaves p → Both Holds (Unit {0}) s (process_exit a s p current) (process_exit b s p current)
+          pub kill_led : (s : KernelState) (p : Proc) (current : ℕ) → IsOurs p → Leaves p → Lead (Unit {0}) s (process_exit calls s p current)
           unfolding process_exit
-          kill_both s p current o l = both_cases Holds _ s (is_busy s p) _ _ _ _ (λ b. both_plain Holds _ s _ (busy_led s p)) (λ b. exit_both s p (Own current) o l b)
+          kill_led s p current o l = lead_cases _ s (is_busy s p) _ _ (λ b. busy_led s p) (λ b. exit_led s p (Own current) o l b)
 
           -- the operations of a thread, if each start and each kill consists of steps
-          module _ (started : (s : KernelState) (p : Proc) → Both Holds (Unit {0}) s (process_start a s p) (process_start b s p)) (killed : (s : KernelState) (p : Proc) (current : ℕ) → Leaves p → Both Holds (Unit {0}) s (process_exit a s p current) (process_exit b s p current)) where
-            pub act_both : (s : KernelState) (current : ℕ) (o : Op) → Allowed current o → Both Holds (Unit {0}) s (act_of a s current o) (act_of b s current o)
+          module _ (started : (s : KernelState) (p : Proc) → Lead (Unit {0}) s (process_start calls s p)) (killed : (s : KernelState) (p : Proc) (current : ℕ) → Leaves p → Lead (Unit {0}) s (process_exit calls s p current)) where
+            pub act_led : (s : KernelState) (current : ℕ) (o : Op) → Allowed current o → Lead (Unit {0}) s (act_of calls s current o)
             unfolding act_of write_of
-            act_both s current (op.Post t e w) f = both_still Holds _ s tt
-            act_both s current (op.Synch p e w) f = are.call s p _ f
-            act_both s current (op.Poll p) f = both_goes Holds _ s tt _ (steps.polled s p)
-            act_both s current (op.Start p) f = started s p
-            act_both s current (op.Kill p) f = killed s p current f
-            act_both s current (op.Set t n) f = both_goes Holds _ s tt _ (sets_kept s t n current)
-            act_both s current (op.Reset t) f = both_goes Holds _ s tt _ (resets_kept s t current)
-            act_both s current (op.RestartTimer t) f = both_goes Holds _ s tt _ (restarts_kept s t current)
-            act_both s current (op.Stop t) f = both_goes Holds _ s tt _ (stops_kept s t)
-            act_both s current (op.Send v) f = both_plain Holds _ s _ (send_led s v)
-            act_both s current (op.Print v) f = both_goes Holds _ s tt _ (steps.prints s current v f)
-            act_both s current (op.Take k) f = both_goes Holds _ s tt _ (taken_kept s k)
-            act_both s current (op.Signal k) f = both_goes Holds _ s tt _ (signalled_kept s k)
+            act_led s current (op.Post t e w) f = lead_still _ s tt
+            act_led s current (op.Synch p e w) f = are.call s p _ f
+            act_led s current (op.Poll p) f = lead_goes _ s tt _ (steps.polled s p)
+            act_led s current (op.Start p) f = started s p
+            act_led s current (op.Kill p) f = killed s p current f
+            act_led s current (op.Set t n) f = lead_goes _ s tt _ (sets_kept s t n current)
+            act_led s current (op.Reset t) f = lead_goes _ s tt _ (resets_kept s t current)
+            act_led s current (op.RestartTimer t) f = lead_goes _ s tt _ (restarts_kept s t current)
+            act_led s current (op.Stop t) f = lead_goes _ s tt _ (stops_kept s t)
+            act_led s current (op.Send v) f = send_led s v
+            act_led s current (op.Print v) f = lead_goes _ s tt _ (steps.prints s current v f)
+            act_led s current (op.Take k) f = lead_goes _ s tt _ (taken_kept s k)
+            act_led s current (op.Signal k) f = lead_goes _ s tt _ (signalled_kept s k)
 
             allowed : (current : ℕ) (x : Op) → FitsOp x → Ours current → Allowed current x
             allowed current (op.Synch p e w) f o = λ q. steps.own p (f q)
@@ -653,101 +570,62 @@ module _ (Keeps Stops : KernelState → KernelState → Type 0) where
             allowed current (op.Print v) f o = o
             allowed current x f o = tt
 
-            perform_both : (s : KernelState) (code : Code) (r : Remainder) (current : ℕ) (x : Op) → FitsOp x → Ours current → Both Holds Remainder s (perform_of a s r current x) (perform_of b s r current x)
+            perform_led : (s : KernelState) (code : Code) (r : Remainder) (current : ℕ) (x : Op) → FitsOp x → Ours current → Lead Remainder s (perform_of calls s r current x)
             unfolding perform_of
-            perform_both s code r current (op.Post to e w) f o = both_bind Holds on _ _ s _ _ _ _ (both_plain Holds _ _ _ (post_led s to _ f)) (λ full t. both_plain Holds _ t _ (answers_led t r current full o))
-            perform_both s code r current x f o = both_bind Holds on _ _ s _ _ _ _ (act_both s current x (allowed current x f o)) (λ a t. both_still Holds _ t r)
+            perform_led s code r current (op.Post to e w) f o = lead_bind _ _ s _ _ (post_led s to _ f) (λ full t. answers_led t r current full o)
+            perform_led s code r current x f o = lead_bind _ _ s _ _ (act_led s current x (allowed current x f o)) (λ a t. lead_still _ t r)
 
-            pub step_both : (code : Code) (p : ℕ) (e : Event) (x : Step) (r : Remainder) (s : KernelState) → FitsStep x → Ours p → Both Holds Answer s (after_step a code p e x r s) (after_step b code p e x r s)
-            step_both code p e (step.Op x) r s f o = both_bind Holds on _ _ s _ _ _ _ (perform_both s code r p x f o) (λ r1 t. are.run t code r1 p e o)
-            step_both code p e (step.Done answer) r s f o = both_still Holds _ s _
-            step_both code p e step.Runaway r s f o = both_plain Holds _ s _ (lead_halts _ s)
-
-            pub one_run_both : (s : KernelState) (code : Code) (r : Remainder) (p : ℕ) (e : Event) → Ours p → Both Holds Answer s (run_of a s code r p e) (run_of b s code r p e)
-            unfolding run_of
-            one_run_both s code r p e o = both_from Holds on _ s _ _ _ (stepped_kept s code r p e o) (step_both code p e _ _ _ (all_fits s code r p e) o)
-
-          -- a call that has led from s to t
-          answered_both : (s t : KernelState) (p : Proc) (ends : Bool) → IsOurs p → is_running s p ≡ true → (ends ≡ true → Leaves p) → Keeps (with_state s p Called) t → Both Holds (Unit {0}) s (answered a t p ends) (answered b t p ends)
-          unfolding answered exit_process
-          answered_both s t p true o r l k =
-              both_cases Holds _ s (is_listed t p) _ _ _ _ (λ i. leaves_both s (exiting_of t p) p p t.members o (λ x. exits t p (on _ t k (opens s p x))) (λ u h. steps.brackets.last s t u p o (l refl) r k i h) (λ u h. steps.brackets.last_stops s t u p o (l refl) r k i h))
-              (λ i. both_goes Holds _ s tt t (steps.brackets.gone s t p o r k i))
-          answered_both s t p false o r l k = both_goes Holds _ s tt _ (steps.brackets.call s t p o r k)
-
-          -- a process of the program reacts, and its answer determines the next step
-          reacted_both : (s : KernelState) (p : ℕ) (e : Event) (x y : Outcome PtState) → Ours p → is_running s (Own p) ≡ true → Both Holds PtState (with_state s (Own p) Called) x y
-              → Both Holds (Unit {0}) s (x >>= λ answer t. answered a t (Own p) (has_ended answer || is_system_event Exit e)) (y >>= λ answer t. answered b t (Own p) (has_ended answer || is_system_event Exit e))
-          reacted_both s p e (Ends t) y o r h = record { leads = steps.brackets.call_stops s t (Own p) o r h.leads; same = λ z. ap (λ w. w >>= λ answer t. answered b t (Own p) (has_ended answer || is_system_event Exit e)) (h.same (opens s (Own p) z)) }
-          reacted_both s p e (Goes c t) y o r h =
-              let k = answered_both s t (Own p) (has_ended c || is_system_event Exit e) o r (λ q. steps.own (Own p) tt) h.leads in
-              record { leads = k.leads; same = λ z. k.same z ∙ ap (λ w. w >>= λ answer t. answered b t (Own p) (has_ended answer || is_system_event Exit e)) (h.same (opens s (Own p) z)) }
-
-          -- a system process yields, and leaves only if it is exited
-          abbrev yields : Calls → Proc → Event → Went → Went
-          yields calls p e x = (x >>= λ _ t. Goes Yielded t) >>= λ answer t. answered calls t p (has_ended answer || is_system_event Exit e)
-
-          system_both : (s : KernelState) (p : Proc) (e : Event) (x y : Went) → IsOurs p → is_running s p ≡ true → Fits p e.number → Both Holds (Unit {0}) (with_state s p Called) x y → Both Holds (Unit {0}) s (yields a p e x) (yields b p e y)
-          system_both s p e (Ends t) y o r f h = record { leads = steps.brackets.call_stops s t p o r h.leads; same = λ z. ap (yields b p e) (h.same (opens s p z)) }
-          system_both s p e (Goes c t) y o r f h =
-              let k = answered_both s t p (is_system_event Exit e) o r (λ q. f (grind (arith, nat_tests))) h.leads in
-              record { leads = k.leads; same = λ z. k.same z ∙ ap (yields b p e) (h.same (opens s p z)) }
-
-          pub called_both : (s : KernelState) (p : Proc) (e : Event) → IsOurs p → is_running s p ≡ true → Fits p e.number
-              → Both Holds (Unit {0}) s (react_of a (with_state s p Called) p e >>= λ answer t. answered a t p (has_ended answer || is_system_event Exit e)) (react_of b (with_state s p Called) p e >>= λ answer t. answered b t p (has_ended answer || is_system_event Exit e))
-          unfolding react_of
-          called_both s (Own p) e o r f = reacted_both s p e _ _ o r (own_both _ p e o)
-          called_both s Etimer e o r f = system_both s Etimer e _ _ o r f (both_plain Holds _ _ _ (etimer_led _ e))
-          called_both s Ctimer e o r f = system_both s Ctimer e _ _ o r f (ctimer_both _ e)
-          called_both s Radio e o r f = system_both s Radio e _ _ o r f (both_plain Holds _ _ _ (radio_led _ e))
-
-          spent_both : (s : KernelState) (p : Proc) (e : Event) (none : Bool) → IsOurs p → is_running s p ≡ true → Fits p e.number
-              → Both Holds (Unit {0}) s ((if none then Ends (halted_of s) else Goes (tt {0}) (record s { units = s.units - 1 })) >>= λ _ t. react_of a (with_state t p Called) p e >>= λ answer u. answered a u p (has_ended answer || is_system_event Exit e)) ((if none then Ends (halted_of s) else Goes (tt {0}) (record s { units = s.units - 1 })) >>= λ _ t. react_of b (with_state t p Called) p e >>= λ answer u. answered b u p (has_ended answer || is_system_event Exit e))
-          spent_both s p e true o r f = both_plain Holds _ s _ (lead_halts _ s)
-          spent_both s p e false o r f = both_from Holds on _ s _ _ _ (steps.units s _ (omega arith)) (called_both _ p e o r f)
-
-          pub call_both : (s : KernelState) (p : Proc) (e : Event) → IsOurs p → Fits p e.number → Both Holds (Unit {0}) s (call_process a s p e) (call_process b s p e)
-          unfolding call_process spend_of
-          call_both s p e o f = both_cases Holds _ s (is_running s p) _ _ _ _ (λ r. spent_both s p e _ o r f) (λ r. both_still Holds _ s tt)
-
-        -- the same with one set of calls
-        module _ (calls : Calls) (are : AreLed calls) where
-          twice : AreBoth Anywhere calls calls
-          twice = record {
-            call = λ s p e f. both_plain Anywhere _ s _ (are.call s p e f);
-            run = λ s code r p e o. both_plain Anywhere _ s _ (are.run s code r p e o);
-            callback = λ s code p e is. both_plain Anywhere _ s _ (are.callback s code p e is);
-          }
-
-          pub start_led : (s : KernelState) (p : Proc) → IsOurs p → Lead (Unit {0}) s (process_start calls s p)
-          start_led s p o = single _ s _ (start_both Anywhere anywhere (λ t q x. tt) (λ t q x. tt) calls calls twice s p o).leads
-
-          pub kill_led : (s : KernelState) (p : Proc) (current : ℕ) → IsOurs p → Leaves p → Lead (Unit {0}) s (process_exit calls s p current)
-          kill_led s p current o l = single _ s _ (kill_both Anywhere anywhere (λ t q x. tt) (λ t q x. tt) calls calls twice s p current o l).leads
-
-          pub call_led : (s : KernelState) (p : Proc) (e : Event) → IsOurs p → Fits p e.number → Lead (Unit {0}) s (call_process calls s p e)
-          call_led s p e o f = single _ s _ (call_both Anywhere anywhere (λ t q x. tt) (λ t q x. tt) calls calls twice s p e o f).leads
-
-          module _ (started : (s : KernelState) (p : Proc) → Lead (Unit {0}) s (process_start calls s p)) (killed : (s : KernelState) (p : Proc) (current : ℕ) → Leaves p → Lead (Unit {0}) s (process_exit calls s p current)) where
-            starts_twice : (s : KernelState) (p : Proc) → Both Anywhere (Unit {0}) s (process_start calls s p) (process_start calls s p)
-            starts_twice s p = both_plain Anywhere _ s _ (started s p)
-
-            kills_twice : (s : KernelState) (p : Proc) (current : ℕ) → Leaves p → Both Anywhere (Unit {0}) s (process_exit calls s p current) (process_exit calls s p current)
-            kills_twice s p current l = both_plain Anywhere _ s _ (killed s p current l)
-
-            pub act_led : (s : KernelState) (current : ℕ) (x : Op) → Allowed current x → Lead (Unit {0}) s (act_of calls s current x)
-            act_led s current x f = single _ s _ (act_both Anywhere anywhere (λ t q y. tt) (λ t q y. tt) calls calls twice starts_twice kills_twice s current x f).leads
+            step_led : (code : Code) (p : ℕ) (e : Event) (x : Step) (r : Remainder) (s : KernelState) → FitsStep x → Ours p → Lead Answer s (after_step calls code p e x r s)
+            step_led code p e (step.Op x) r s f o = lead_bind _ _ s _ _ (perform_led s code r p x f o) (λ r1 t. are.run t code r1 p e o)
+            step_led code p e (step.Done answer) r s f o = lead_still _ s _
+            step_led code p e step.Runaway r s f o = lead_halts _ s
 
             pub one_run_led : (s : KernelState) (code : Code) (r : Remainder) (p : ℕ) (e : Event) → Ours p → Lead Answer s (run_of calls s code r p e)
-            one_run_led s code r p e o = single _ s _ (one_run_both Anywhere anywhere (λ t q y. tt) (λ t q y. tt) calls calls twice starts_twice kills_twice s code r p e o).leads
+            unfolding run_of
+            one_run_led s code r p e o = lead_from _ s _ _ (stepped_kept s code r p e o) (step_led code p e _ _ _ (all_fits s code r p e) o)
+
+          -- a call that has led from s to t
+          answered_led : (s t : KernelState) (p : Proc) (ends : Bool) → IsOurs p → is_running s p ≡ true → (ends ≡ true → Leaves p) → Keeps (with_state s p Called) t → Lead (Unit {0}) s (answered calls t p ends)
+          unfolding answered exit_process
+          answered_led s t p true o r l k =
+              lead_cases _ s (is_listed t p) _ _ (λ i. leaves_led s (exiting_of t p) p p t.members o (λ u h. steps.brackets.last s t u p o (l refl) r k i h) (λ u h. steps.brackets.last_stops s t u p o (l refl) r k i h))
+              (λ i. lead_goes _ s tt t (steps.brackets.gone s t p o r k i))
+          answered_led s t p false o r l k = lead_goes _ s tt _ (steps.brackets.call s t p o r k)
+
+          -- a process of the program reacts, and its answer determines the next step
+          reacted_led : (s : KernelState) (p : ℕ) (e : Event) (x : Outcome PtState) → Ours p → is_running s (Own p) ≡ true → Lead PtState (with_state s (Own p) Called) x
+              → Lead (Unit {0}) s (x >>= λ answer t. answered calls t (Own p) (has_ended answer || is_system_event Exit e))
+          reacted_led s p e (Ends t) o r h = record { leads = steps.brackets.call_stops s t (Own p) o r h.leads }
+          reacted_led s p e (Goes c t) o r h = answered_led s t (Own p) (has_ended c || is_system_event Exit e) o r (λ q. steps.own (Own p) tt) h.leads
+
+          -- a system process yields, and leaves only if it is exited
+          system_led : (s : KernelState) (p : Proc) (e : Event) (x : Went) → IsOurs p → is_running s p ≡ true → Fits p e.number → Lead (Unit {0}) (with_state s p Called) x
+              → Lead (Unit {0}) s ((x >>= λ _ t. Goes Yielded t) >>= λ answer t. answered calls t p (has_ended answer || is_system_event Exit e))
+          system_led s p e (Ends t) o r f h = record { leads = steps.brackets.call_stops s t p o r h.leads }
+          system_led s p e (Goes c t) o r f h = answered_led s t p (is_system_event Exit e) o r (λ q. f (grind (arith, nat_tests))) h.leads
+
+          called_led : (s : KernelState) (p : Proc) (e : Event) → IsOurs p → is_running s p ≡ true → Fits p e.number
+              → Lead (Unit {0}) s (react_of calls (with_state s p Called) p e >>= λ answer t. answered calls t p (has_ended answer || is_system_event Exit e))
+          unfolding react_of
+          called_led s (Own p) e o r f = reacted_led s p e _ o r (own_led _ p e o)
+          called_led s Etimer e o r f = system_led s Etimer e _ o r f (etimer_led _ e)
+          called_led s Ctimer e o r f = system_led s Ctimer e _ o r f (ctimer_led _ e)
+          called_led s Radio e o r f = system_led s Radio e _ o r f (radio_led _ e)
+
+          spent_led : (s : KernelState) (p : Proc) (e : Event) (none : Bool) → IsOurs p → is_running s p ≡ true → Fits p e.number
+              → Lead (Unit {0}) s ((if none then Ends (halted_of s) else Goes (tt {0}) (record s { units = s.units - 1 })) >>= λ _ t. react_of calls (with_state t p Called) p e >>= λ answer u. answered calls u p (has_ended answer || is_system_event Exit e))
+          spent_led s p e true o r f = lead_halts _ s
+          spent_led s p e false o r f = lead_from _ s _ _ (steps.units s _ (omega arith)) (called_led _ p e o r f)
+
+          pub call_led : (s : KernelState) (p : Proc) (e : Event) → IsOurs p → Fits p e.number → Lead (Unit {0}) s (call_process calls s p e)
+          unfolding call_process spend_of
+          call_led s p e o f = lead_cases _ s (is_running s p) _ _ (λ r. spent_led s p e _ o r f) (λ r. lead_still _ s tt)
 
     -- the case in which all processes are observed
     module _ (Leaves : Proc → Type 0) (steps : AreSteps Leaves Every) where
       pub ours : (p : Proc) → IsOurs Leaves Every p
       ours (Own p) = tt
-      ours Etimer = tt
-      ours Ctimer = tt
-      ours Radio = tt
+      ours x = tt
 
       pub start_all : (calls : Calls) → AreLed Leaves Every calls → (s : KernelState) (p : Proc) → Lead (Unit {0}) s (process_start calls s p)
       start_all calls are s p = start_led Leaves Every steps calls are s p (ours p)

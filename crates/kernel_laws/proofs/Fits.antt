@@ -1,7 +1,7 @@
 -- Each operation of a thread that exits a process exits a process of the program.
 use Rattle.std.proofs.Common.{ℕ, List}
 use Rattle.program_tree.specs.declared.event.Proc.{Proc}
-use Rattle.program_tree.specs.declared.event.Proc.TheVariants.{Own, Etimer, Ctimer, Radio}
+use Rattle.program_tree.specs.declared.event.Proc.TheVariants.{Own}
 use Rattle.program_tree.specs.declared.event.Target.{Target}
 use Rattle.program_tree.specs.declared.event.Target.TheVariants.{One, All}
 use Rattle.program_tree.specs.declared.event.Event.{Event}
@@ -31,9 +31,7 @@ FitsStep step.Runaway = Unit {0}
 
 own_is : (p : Proc) → thread.IsOwn p → IsOwnProcess p
 own_is (Own p) h = tt
-own_is Etimer h = absurd h
-own_is Ctimer h = absurd h
-own_is Radio h = absurd h
+own_is x h = absurd h
 
 post_fits : (t : Target) (e w : ℕ) → NamesOwn (op.Post t e w) → FitsTarget t e
 post_fits (One p) e w h = λ q. own_is p h
@@ -42,17 +40,8 @@ post_fits All e w h = h
 op_fits : (o : Op) → NamesOwn o → FitsOp o
 op_fits (op.Post t e w) h = post_fits t e w h
 op_fits (op.Synch p e w) h = λ q. own_is p h
-op_fits (op.Poll p) h = tt
-op_fits (op.Start p) h = tt
 op_fits (op.Kill p) h = own_is p h
-op_fits (op.Set t n) h = tt
-op_fits (op.Reset t) h = tt
-op_fits (op.RestartTimer t) h = tt
-op_fits (op.Stop t) h = tt
-op_fits (op.Send v) h = tt
-op_fits (op.Print v) h = tt
-op_fits (op.Take k) h = tt
-op_fits (op.Signal k) h = tt
+op_fits x h = tt
 
 step_fits : (s : Step) → StepNamesOwn s → FitsStep s
 step_fits (step.Op o) h = op_fits o h

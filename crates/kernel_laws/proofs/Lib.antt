@@ -3,7 +3,6 @@ pub mod BodyCalls
 pub mod BodyMotes
 pub mod BodyRuns
 pub mod Delivers
-pub mod Depth
 pub mod Due
 pub mod EachStep
 pub mod Emptied

@@ -2,7 +2,7 @@
 use Rattle.std.proofs.Common.{ℕ, zero, suc, ◌≡◌, ◌+◌, ◌<◌, ◌==◌, ◌&&◌, not, Bool, true, false, List, [], ◌∷◌, ◌++◌, length, refl, ap, ◌∙◌, append_assoc, append-nil, arith, rules}
 use Rattle.std.specs.List.{Contains}
 use Rattle.std.proofs.lemmas.Bool.Decides.{nat_tests}
-use Rattle.kernel_laws.specs.HandedOn.{Line, Start, Leave, Post, Take, Drop, Halt, Other, Incarnation, is_on, without, list_after, listed_from, process_list, posted_serials, handing_at, handings_behind}
+use Rattle.kernel_laws.specs.HandedOn.{Line, Post, Incarnation, is_on, without, list_after, listed_from, process_list, posted_serials, handing_at, handings_behind}
 use Rattle.kernel_laws.specs.Delivery.{take_or_drop}
 
 listed_from_more : (n : ℕ) (list : List Incarnation) (ls : List Line) (l : Line) → listed_from n list (ls ++ l ∷ []) ≡ list_after (n + length ls) (listed_from n list ls) l
@@ -22,12 +22,7 @@ handings_more b ls l = handings_joined b ls (l ∷ []) ∙ rw append-nil refl
 pub posted_more : (ls : List Line) (l : Line) → posted_serials (ls ++ l ∷ []) ≡ posted_serials ls ++ posted_serials (l ∷ [])
 posted_more [] l = refl
 posted_more (Post s g ∷ ls) l = ap (λ xs. s ∷ xs) (posted_more ls l)
-posted_more (Start p ∷ ls) l = posted_more ls l
-posted_more (Leave p ∷ ls) l = posted_more ls l
-posted_more (Take s p ∷ ls) l = posted_more ls l
-posted_more (Drop s p ∷ ls) l = posted_more ls l
-posted_more (Halt ∷ ls) l = posted_more ls l
-posted_more (Other ∷ ls) l = posted_more ls l
+posted_more (x ∷ ls) l = posted_more ls l
 
 pub on_start : (list : List Incarnation) (p n : ℕ) (x : Incarnation) → x.number < n → is_on (record { process = p; number = n } ∷ list) x ≡ is_on list x
 on_start list p n x h = grind (arith, nat_tests)

@@ -109,18 +109,7 @@ note_is_other : (w : What) → IsNote w → seen_what w ≡ handed.Other
 note_is_other (what.Recv f n v) h = refl
 note_is_other (what.Lost f n) h = refl
 note_is_other (what.Collide f n) h = refl
-note_is_other (what.Start p) h = absurd h
-note_is_other (what.Leave p) h = absurd h
-note_is_other (what.Post n t e w) h = absurd h
-note_is_other (what.Full t e w) h = absurd h
-note_is_other (what.Take n p) h = absurd h
-note_is_other (what.Drop n p) h = absurd h
-note_is_other (what.Print p v) h = absurd h
-note_is_other (what.Busy p) h = absurd h
-note_is_other what.Halt h = absurd h
-note_is_other (what.Send n v) h = absurd h
-note_is_other (what.Deaf f n) h = absurd h
-note_is_other what.Boots h = absurd h
+note_is_other x h = absurd h
 
 traced_noted : (lines : List Line) (s : KernelState) (l : Line) → IsNote l.what → view.GoesWithView (seen_lines lines) (view_of s) → view.GoesWithView (seen_lines (lines ++ l ∷ [])) (view_of s)
 traced_noted lines s l n g = rw (map-append, note_is_other l.what n) (goes_further (seen_lines lines) (handed.Other ∷ []) (view_of s) (view_of s) g.walked g (other_moves (view_of s) g.walked []))

@@ -17,21 +17,10 @@ use Rattle.kernel_laws.proofs.Steps.{any_or}
 
 place_is : (q p : Proc) → is_same q p ≡ true → q ≡ p
 place_is (Own a) (Own b) e = let same : a ≡ b = grind (arith, nat_tests) in ap Own same
-place_is (Own a) Etimer e = absurd (grind (arith, nat_tests))
-place_is (Own a) Ctimer e = absurd (grind (arith, nat_tests))
-place_is (Own a) Radio e = absurd (grind (arith, nat_tests))
-place_is Etimer (Own b) e = absurd (grind (arith, nat_tests))
 place_is Etimer Etimer e = refl
-place_is Etimer Ctimer e = absurd (cc)
-place_is Etimer Radio e = absurd (cc)
-place_is Ctimer (Own b) e = absurd (grind (arith, nat_tests))
-place_is Ctimer Etimer e = absurd (cc)
 place_is Ctimer Ctimer e = refl
-place_is Ctimer Radio e = absurd (cc)
-place_is Radio (Own b) e = absurd (grind (arith, nat_tests))
-place_is Radio Etimer e = absurd (cc)
-place_is Radio Ctimer e = absurd (cc)
 place_is Radio Radio e = refl
+place_is q p e = absurd (grind (arith, nat_tests))
 
 same_back : (q p : Proc) → is_same q p ≡ false → is_same p q ≡ false
 same_back q p e = grind (arith, nat_tests)

@@ -1,7 +1,5 @@
 -- The position of a process of the program, and the small steps that don't change it: all steps of other processes.
-use Rattle.std.proofs.Common.{ℕ, zero, suc, ◌≡◌, ◌+◌, ◌^◌, ◌⊎◌, inl, inr, Bool, true, false, nat_lt, nat_le}
-use Rattle.std.proofs.Common.{if◌then◌else◌, List, [], ◌∷◌, ◌++◌, Some, None, length, slice_get, slice_set, refl, sym}
-use Rattle.std.proofs.Common.{ap, ◌∙◌, arith, append-nil}
+use Rattle.std.proofs.Common.{ℕ, zero, suc, ◌≡◌, ◌+◌, ◌^◌, ◌⊎◌, inl, inr, Bool, true, false, nat_lt, nat_le, if◌then◌else◌, List, [], ◌∷◌, ◌++◌, Some, None, length, slice_get, slice_set, refl, sym, ap, ◌∙◌, arith, append-nil}
 use Rattle.std.proofs.lemmas.List.{length-set}
 use Rattle.std.proofs.lemmas.List.Elements.{filter-append}
 use Rattle.std.proofs.lemmas.Bool.Decides.{nat_tests}
@@ -146,9 +144,7 @@ module _ (p : ℕ) where
 
   pub process_quiet : (s : KernelState) (q : Proc) → IsOther p q → IsQuiet s (with_fresh_process s q)
   process_quiet s (Own q) n = body_quiet s q (λ e. other_own p q n (sym e))
-  process_quiet s Etimer n = refl
-  process_quiet s Ctimer n = refl
-  process_quiet s Radio n = refl
+  process_quiet s x n = refl
 
   member_quiet : (s : KernelState) (q : Proc) (k : ℕ) → IsOther p q → IsQuiet s (record s { members = record { process = q; incarnation = s.started } ∷ s.members; started = k })
   member_quiet s q k n =

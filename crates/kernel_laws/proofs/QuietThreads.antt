@@ -2,7 +2,7 @@
 use Rattle.std.proofs.Common.{ℕ, zero, suc, ◌≡◌, ◌-◌, Bool, true, false, ◌&&◌, if◌then◌else◌, List, [], ◌∷◌, ◌++◌, Option, None, Some, slice_get, refl, ap, ◌∙◌}
 use Rattle.std.specs.Prelude.{nat_lt, nat_le, not, slice_index, length, ◌==◌, ◌+◌}
 use Rattle.program_tree.specs.declared.event.Event.{Event}
-use Rattle.program_tree.specs.Tree.{Action, assign, print, send, wait_until, wait_while, yield, yield_until, spawn, restart, exit, pause, acquire, signal, post, broadcast, synch, poll, start, kill, set, reset, restart_timer, stop, Statement, does, branch, while, Body, end, next, Otherwise, nothing, otherwise, listed}
+use Rattle.program_tree.specs.Tree.{Action, assign, print, wait_until, wait_while, yield, yield_until, spawn, restart, exit, pause, acquire, post, broadcast, Statement, does, branch, while, Body, end, next, Otherwise, nothing, otherwise, listed}
 use Rattle.program_tree.specs.Code.{Code, callback_at}
 use Rattle.protothread.specs.declared.part.Part.{Part}
 use Rattle.protothread.specs.declared.part.Part.TheVariants.{OnPoll, OnExit, Callback}
@@ -107,7 +107,6 @@ module _ (code : Code) (whole : List (Statement ℕ)) (all : all_quiet whole ≡
   done_quiet : (a : Action ℕ) → is_quiet_action a ≡ true → ReachedQuietly vars (Done a)
   done_quiet (assign i e) h = absurd (cc)
   done_quiet (print e) h = absurd (cc)
-  done_quiet (send e) h = (tt, tt, on)
   done_quiet (wait_until c) h = either_quiet _ vars (performed code whole vars (does (wait_until c)) rest) (holds (value vars event looks c)) _ _ (refl, on) (refl, left)
   done_quiet (wait_while c) h = either_quiet _ vars (performed code whole vars (does (wait_while c)) rest) (not (holds (value vars event looks c))) _ _ (refl, on) (refl, left)
   done_quiet yield h = either_quiet _ vars (performed code whole vars (does yield) rest) y _ _ (refl, on) (refl, left)
@@ -118,19 +117,9 @@ module _ (code : Code) (whole : List (Statement ℕ)) (all : all_quiet whole ≡
   done_quiet pause h =
       either_quiet _ vars (performed code whole vars (does pause) rest) y _ _ (either_quiet _ vars (performed code whole vars (does pause) rest) (event.number == 0x85) _ _ (refl, on) (refl, left)) (tt, tt, (refl, left))
   done_quiet (acquire s) h = either_quiet _ vars (performed code whole vars (does (acquire s)) rest) (slice_index looks.counts s == 0) _ _ (refl, left) (tt, tt, on)
-  done_quiet (signal s) h = (tt, tt, on)
-  done_quiet (post p e w None) h = (tt, tt, on)
   done_quiet (post p e w (Some i)) h = absurd (cc)
-  done_quiet (broadcast e w None) h = (tt, tt, on)
   done_quiet (broadcast e w (Some i)) h = absurd (cc)
-  done_quiet (synch p e w) h = (tt, tt, on)
-  done_quiet (poll p) h = (tt, tt, on)
-  done_quiet (start p) h = (tt, tt, on)
-  done_quiet (kill p) h = (tt, tt, on)
-  done_quiet (set t e) h = (tt, tt, on)
-  done_quiet (reset t) h = (tt, tt, on)
-  done_quiet (restart_timer t) h = (tt, tt, on)
-  done_quiet (stop t) h = (tt, tt, on)
+  done_quiet x h = (tt, tt, on)
 
   chosen_quiet : (b : Bool) (xs ys : List (Statement ℕ)) → all_quiet xs ≡ true → all_quiet ys ≡ true → all_quiet (if b then xs else ys) ≡ true
   chosen_quiet true xs ys h i = h
@@ -202,11 +191,8 @@ abbrev AnsweredQuietly : Code → (vars : List ℕ) → (answer : ℕ) → Remai
 AnsweredQuietly code vars answer r = IsQuietRest code (answered_of r vars answer).remainder × ((answered_of r vars answer).variables ≡ vars)
 
 answered_from : (m : LastAction) (code : Code) (r : Remainder) (vars : List ℕ) (answer : ℕ) → all_quiet (whole_of code r.part) ≡ true → IsQuietAction m → IsQuietPlace r.place → AnsweredQuietly code vars answer (record r { last_action = m })
-answered_from AtRest code r vars answer all m p = (record { whole = all; last_action = tt; place = p }, refl)
-answered_from (UnderWay None) code r vars answer all m p = (record { whole = all; last_action = tt; place = p }, refl)
 answered_from (UnderWay (Some i)) code r vars answer all m p = absurd m
-answered_from Pausing code r vars answer all m p = (record { whole = all; last_action = tt; place = p }, refl)
-answered_from RunAway code r vars answer all m p = (record { whole = all; last_action = tt; place = p }, refl)
+answered_from x code r vars answer all m p = (record { whole = all; last_action = tt; place = p }, refl)
 
 pub answered_quietly : (code : Code) (r : Remainder) (vars : List ℕ) (answer : ℕ) → IsQuietRest code r → AnsweredQuietly code vars answer r
 answered_quietly code r vars answer h = answered_from r.last_action code r vars answer h.whole h.last_action h.place

@@ -51,14 +51,11 @@ no_halt_one : (l : Line) → (l ≡ Halt → ⊥) → NoHalt (l ∷ [])
 no_halt_one l f c = f (alone l Halt c)
 
 no_halt_step : (m : DeliveryMachine) (more : List Line) (m' : DeliveryMachine) → DeliveryStep m more m' → NoHalt more
-no_halt_step m more m' (starts n p u) = no_halt_one _ (λ e. (cc))
-no_halt_step m more m' (leaves n p) = no_halt_one _ (λ e. (cc))
-no_halt_step m more m' (posts n g) = no_halt_one _ (λ e. (cc))
 no_halt_step m more m' (gives_one n s p waiting c q) = no_halt_one _ (no_halt_given (has_incarnation n.list p) s p)
 no_halt_step m more m' (begins_walk n s waiting c q f) = λ c. omega (arith, c.1)
 no_halt_step m more m' (walks_on n i rest c) = no_halt_one _ (no_halt_given (is_on n.list i) n.walked i.process)
-no_halt_step m more m' (writes n) = no_halt_one _ (λ e. (cc))
 no_halt_step m more m' (renumbers n list k c e a) = λ c. omega (arith, c.1)
+no_halt_step m more m' x = no_halt_one _ (λ e. (cc))
 
 no_halt_runs : (m : DeliveryMachine) (t : List Line) (m' : DeliveryMachine) → DeliveryRuns m t m' → NoHalt t
 no_halt_runs m t m' stays c = omega (arith, c.1)

@@ -9,7 +9,7 @@ use Rattle.kernel_laws.specs.HandedOn.{without}
 use Rattle.kernel_laws.proofs.Views as views
 use Rattle.kernel_laws.proofs.Views.{Moves, in_state_still, moves_joined, stops_joined, other_moves, start_moves, leave_moves, post_moves, halt_stops}
 use Rattle.program_tree.specs.declared.event.Proc.{Proc}
-use Rattle.program_tree.specs.declared.event.Proc.TheVariants.{Own, Etimer, Ctimer, Radio}
+use Rattle.program_tree.specs.declared.event.Proc.TheVariants.{Own, Etimer}
 use Rattle.program_tree.specs.declared.event.Target.{Target}
 use Rattle.program_tree.specs.declared.event.Target.TheVariants.{One}
 use Rattle.program_tree.specs.declared.event.Event.{Event}
@@ -156,9 +156,7 @@ others_stay (m ∷ ms) p q e = grind (arith, nat_tests, others_stay ms p q e)
 
 pub etimer_is_not_own : (p : Proc) → IsOwnProcess p → (place_of Etimer == place_of p) ≡ false
 etimer_is_not_own (Own p) own = grind (arith, nat_tests)
-etimer_is_not_own Etimer own = absurd own
-etimer_is_not_own Ctimer own = absurd own
-etimer_is_not_own Radio own = absurd own
+etimer_is_not_own x own = absurd own
 
 leaves_list : (s : KernelState) (p : Proc) → IsOwnProcess p → GoesOn s (without_process s p)
 unfolding unlisted_of with_exiting

@@ -1,7 +1,6 @@
 -- Etimer's poll: each timer that is due gets its line.
-use Rattle.std.proofs.Common.{ℕ, zero, suc, ◌≡◌, ◌<◌, ◌≤◌, ◌==◌, not, length, Bool, true, false, if◌then◌else◌, List}
-use Rattle.std.proofs.Common.{[], ◌∷◌, ◌++◌, Option, Some, None, refl, sym, ap, subst, ◌∙◌, append_assoc, arith}
-use Rattle.std.proofs.lemmas.Bool.{eqb-true, eqb-false, cond_both}
+use Rattle.std.proofs.Common.{ℕ, zero, suc, ◌≡◌, ◌≤◌, ◌==◌, not, length, Bool, true, false, if◌then◌else◌, List, [], ◌∷◌, ◌++◌, Option, Some, None, refl, sym, ap, subst, ◌∙◌, append_assoc, arith}
+use Rattle.std.proofs.lemmas.Bool.{eqb-true, eqb-false}
 use Rattle.std.proofs.lemmas.Bool.Decides.{nat_tests}
 use Rattle.std.proofs.lemmas.List.{get_or-set_other}
 use Rattle.program_tree.specs.declared.event.Proc.{Proc}
@@ -10,7 +9,7 @@ use Rattle.program_tree.specs.declared.event.Target.TheVariants.{One}
 use Rattle.program_tree.specs.declared.event.Event.{Event}
 use Rattle.program_tree.specs.declared.event.SystemEvent.TheVariants.{Poll, Timer}
 use Rattle.program_tree.specs.Events.{system_number}
-use Rattle.mote_timers.specs.Numbers.{is_member, without_member}
+use Rattle.mote_timers.specs.Numbers.{is_member}
 use Rattle.mote_timers.specs.Timer.{is_due, unset}
 use Rattle.mote_timers.specs.TimerLists.{TimerLists, timer_at, stop_timer}
 use Rattle.mote_timers.proofs.NumberLists.{is_member-filter}
@@ -18,28 +17,13 @@ use Rattle.trace_lines.specs.declared.line.Line.{Line}
 use Rattle.process_kernel.specs.State.{KernelState, Went, Ends, Goes}
 use Rattle.process_kernel.specs.Posts.{own_event, is_system_event, process_post, process_poll}
 use Rattle.process_kernel.specs.Etimer.{fired_of, post_due, walk_timers, walks_of, pass_of, etimer_process}
+use Rattle.process_kernel.proofs.Walks.{fewer_without}
 use Rattle.process_kernel.specs.ProcessList.{is_alive, process_state, with_needs_poll}
 use Rattle.kernel_laws.specs.Polled.{TellsPost, TellsOfPost, DueTimersArePosted}
 use Rattle.kernel_laws.proofs.Packets.{IfGoes, Offered, WritesOne, post_offers, goes_bind}
 use Rattle.kernel_laws.specs.Own.{IsOwnProcess}
 use Rattle.kernel_laws.proofs.EachStep.{Every, walk_timers_led, walks_led}
 use Rattle.kernel_laws.proofs.Steps.{GoesOn, Stops, Reach, Reaches, chain, steps}
-
--- a list of timers without one number
-
-le_without : (x : ℕ) (ks : List ℕ) → length (without_member x ks) ≤ length ks
-le_without x [] = omega arith
-le_without x (k ∷ ks) =
-    let few = le_without x ks in
-    cond_both (not (k == x)) (k ∷ without_member x ks) (without_member x ks) (λ (l : List ℕ). length l ≤ length (k ∷ ks)) (λ _. omega arith) (λ _. omega arith)
-
-less_by : (x k : ℕ) (ks : List ℕ) → (b : Bool) → (k == x) ≡ b → is_member x (k ∷ ks) ≡ true → (is_member x ks ≡ true → length (without_member x ks) < length ks) → length (without_member x (k ∷ ks)) < length (k ∷ ks)
-less_by x k ks true e h later = let few = le_without x ks in rw e (omega arith)
-less_by x k ks false e h later = let there : is_member x ks ≡ true = grind (arith, nat_tests) in let less = later there in rw e (omega arith)
-
-less_without : (x : ℕ) (ks : List ℕ) → is_member x ks ≡ true → length (without_member x ks) < length ks
-less_without x [] h = absurd (cc)
-less_without x (k ∷ ks) h = less_by x k ks (k == x) refl h (less_without x ks)
 
 pub first_member : (x : ℕ) (ts : List ℕ) → is_member x (x ∷ ts) ≡ true
 first_member x ts = grind (arith, nat_tests)
@@ -60,7 +44,7 @@ other_member l x id e h = is_member-filter (λ j. not (j == x)) id l.listed (gri
 
 pub fewer : (l : TimerLists) (x k : ℕ) → is_member x l.listed ≡ true → length l.listed ≤ suc k → length (stop_timer l x).listed ≤ k
 unfolding stop_timer
-fewer l x k h few = let less = less_without x l.listed h in omega arith
+fewer l x k h few = let less = fewer_without x l.listed h in omega arith
 
 pub poll_lines : (s : KernelState) → (process_poll s Etimer).lines ≡ s.lines
 unfolding process_poll with_needs_poll

@@ -2,7 +2,7 @@
 use Rattle.std.proofs.Common.{ℕ, zero, suc, ◌≡◌, ◌-◌, Bool, true, false, ◌&&◌, if◌then◌else◌, List, None, refl, sym, subst}
 use Rattle.std.specs.Prelude.{nat_lt, not, slice_index, ◌==◌}
 use Rattle.program_tree.specs.declared.event.Event.{Event}
-use Rattle.program_tree.specs.Tree.{Action, assign, print, send, wait_until, wait_while, yield, yield_until, spawn, restart, exit, pause, acquire, signal, post, broadcast, synch, poll, start, kill, set, reset, restart_timer, stop, Statement, does, branch, while}
+use Rattle.program_tree.specs.Tree.{Action, assign, wait_until, wait_while, yield, yield_until, spawn, restart, exit, pause, acquire, post, broadcast, Statement, does}
 use Rattle.program_tree.specs.Code.{Code}
 use Rattle.protothread.specs.declared.part.Part.{Part}
 use Rattle.protothread.specs.declared.thread.LastAction.{LastAction}
@@ -11,7 +11,6 @@ use Rattle.protothread.specs.declared.step.Op.{Op}
 use Rattle.protothread.specs.declared.step.Op.TheVariants.{Post}
 use Rattle.protothread.specs.declared.step.Step.{Step}
 use Rattle.protothread.specs.declared.step.Step.TheVariants as step
-use Rattle.protothread.specs.declared.answer.PtState.TheVariants.{Waiting, Yielded, Exited, Ended}
 use Rattle.protothread.specs.Looks.{Looks}
 use Rattle.protothread.specs.Value.{value, holds}
 use Rattle.protothread.specs.Remainder.{Place, ended, at, within, settled, Remainder, thread_block, whole_of}
@@ -41,8 +40,6 @@ either_unanswered D f false c d h k = k
 module _ (code : Code) (whole : List (Statement ℕ)) (y : Bool) (vars : List ℕ) (event : Event) (looks : Looks) (rest : List (Statement ℕ)) where
   unanswered_does : (a : Action ℕ) → ReachedUnanswered (performed code whole vars (does a) rest (effect_of code.number y vars event looks a))
   unanswered_does (assign i e) = tt
-  unanswered_does (print e) = refl
-  unanswered_does (send e) = refl
   unanswered_does (wait_until c) = either_unanswered _ (performed code whole vars (does (wait_until c)) rest) (holds (value vars event looks c)) _ _ tt tt
   unanswered_does (wait_while c) = either_unanswered _ (performed code whole vars (does (wait_while c)) rest) (not (holds (value vars event looks c))) _ _ tt tt
   unanswered_does yield = either_unanswered _ (performed code whole vars (does yield) rest) y _ _ tt tt
@@ -53,34 +50,20 @@ module _ (code : Code) (whole : List (Statement ℕ)) (y : Bool) (vars : List �
   unanswered_does pause =
       either_unanswered _ (performed code whole vars (does pause) rest) y _ _ (either_unanswered _ (performed code whole vars (does pause) rest) (event.number == 0x85) _ _ tt tt) tt
   unanswered_does (acquire s) = either_unanswered _ (performed code whole vars (does (acquire s)) rest) (slice_index looks.counts s == 0) _ _ tt refl
-  unanswered_does (signal s) = refl
   unanswered_does (post p e w into) = tt
   unanswered_does (broadcast e w into) = tt
-  unanswered_does (synch p e w) = refl
-  unanswered_does (poll p) = refl
-  unanswered_does (start p) = refl
-  unanswered_does (kill p) = refl
-  unanswered_does (set t e) = refl
-  unanswered_does (reset t) = refl
-  unanswered_does (restart_timer t) = refl
-  unanswered_does (stop t) = refl
+  unanswered_does x = refl
 
 unanswered_spawner : (t : ℕ) (rest : List (Statement ℕ)) (vars : List ℕ) (r : Reached) → ReachedUnanswered r → ReachedUnanswered (spawner_reached t rest vars r)
-unanswered_spawner t rest vars (goes_on changed p) h = tt
 unanswered_spawner t rest vars (operates o last_action p) h = h
-unanswered_spawner t rest vars (answers Waiting p) h = tt
-unanswered_spawner t rest vars (answers Yielded p) h = tt
-unanswered_spawner t rest vars (answers Exited p) h = tt
-unanswered_spawner t rest vars (answers Ended p) h = tt
+unanswered_spawner t rest vars x h = tt
 
 unanswered_reached : (code : Code) (whole : List (Statement ℕ)) (vars : List ℕ) (event : Event) (looks : Looks) (p : Place) → ReachedUnanswered (reached code whole vars event looks p)
-unanswered_reached code whole vars event looks ended = tt
 unanswered_reached code whole vars event looks (at y (does a) rest) =
     unanswered_does code whole y vars event looks rest a
-unanswered_reached code whole vars event looks (at y (branch c a o) rest) = tt
-unanswered_reached code whole vars event looks (at y (while c a) rest) = tt
 unanswered_reached code whole vars event looks (within t p rest) =
     unanswered_spawner t rest vars (reached code (thread_block code t) vars event looks p) (unanswered_reached code (thread_block code t) vars event looks p)
+unanswered_reached code whole vars event looks x = tt
 
 module _ (code : Code) (part : Part) (event : Event) (looks : Looks) where
   unanswered_step : (units : ℕ) (p : Place) (vars : List ℕ) → AdvancedUnanswered (continued code part event looks p vars units)

@@ -3,7 +3,7 @@ use Rattle.std.proofs.Common.{ℕ, ◌≡◌, ◌&&◌, ◌⊎◌, inl, inr, Boo
 use Rattle.std.specs.List.{All}
 use Rattle.std.proofs.lemmas.List.Elements.{All-head}
 use Rattle.program_tree.specs.declared.event.Proc.{Proc}
-use Rattle.program_tree.specs.declared.event.Proc.TheVariants.{Own, Etimer, Ctimer, Radio}
+use Rattle.program_tree.specs.declared.event.Proc.TheVariants.{Etimer, Radio}
 use Rattle.program_tree.specs.declared.event.Target.{Target}
 use Rattle.program_tree.specs.declared.event.Target.TheVariants.{One, All as ToEach}
 use Rattle.program_tree.specs.declared.event.SystemEvent.TheVariants.{Poll, Exit}
@@ -148,10 +148,8 @@ module _ (calls : Calls) (are : AreWatched calls) where
   other_good r moment s p n g = good_leads _ r moment s _ g (other_led Etimer calls are.led s p n) (lead_from tables.KeepsStep Whatever tables.chain _ s _ _ (tables.run_steps.cleared s p) (are.kept.call _ p (own_event Poll 0) (λ q. tt)))
 
   polled_good : (r : Bool) (moment : ℕ) (s : KernelState) (p : Proc) → Good r moment s → IfGoes (Good r moment) (calls.call (with_needs_poll s p false) p (own_event Poll 0))
-  polled_good r moment s (Own p) g = other_good r moment s (Own p) (λ e. omega arith) g
   polled_good r moment s Etimer g = etimer_good r moment (with_needs_poll s Etimer false) (cleared_moment s Etimer ∙ g.now_is) (cleared_in_state r s Etimer g.in_state)
-  polled_good r moment s Ctimer g = other_good r moment s Ctimer (λ e. omega arith) g
-  polled_good r moment s Radio g = other_good r moment s Radio (λ e. omega arith) g
+  polled_good r moment s x g = other_good r moment s x (λ e. omega arith) g
 
   turn_good : (r : Bool) (moment : ℕ) (s : KernelState) (x : Member) → Good r moment s → IfGoes (Good r moment) (poll_turn_of calls s x)
   unfolding poll_turn_of

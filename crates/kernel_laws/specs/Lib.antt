@@ -1,4 +1,3 @@
-pub mod Depth
 pub mod Due
 pub mod Going
 pub mod InStep

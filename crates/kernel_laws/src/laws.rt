@@ -1,7 +1,6 @@
 //! Laws of the traces of a kernel. Each is a theorem, stated as the contract of an empty function.
 
 ghost use Rattle.kernel_laws.specs.Polled.{PacketsAreHanded, DueTimersArePosted};
-ghost use Rattle.kernel_laws.specs.Depth.{CallsAreAnyDepth, ThreadsAreAnyDepth, BootsAreAnyDepth, RunsAreAnyDepth};
 ghost use Rattle.kernel_laws.specs.Due.{CallsForgetNone, BootForgetsNone, RunForgetsNone, RunTellsDue};
 ghost use Rattle.kernel_laws.specs.Due.{BootKeepsOwners};
 ghost use Rattle.kernel_laws.specs.Due.{RunKeepsOwners};
@@ -112,14 +111,4 @@ pub fn each_call_tells_lives()
     ensures poll { PollTells }
     ensures packet { PacketTells }
     ensures note { NoteTells }
-{}
-
-/// The rules limit the depth of nested calls. This limit never stops a mote, because each call spends a unit of work.
-/// If the depth is above the number of units, more depth doesn't change the outcome of a call, a thread, a boot or a
-/// kernel run.
-pub fn depth_is_no_limit()
-    ensures calls { CallsAreAnyDepth }
-    ensures threads { ThreadsAreAnyDepth }
-    ensures boots { BootsAreAnyDepth }
-    ensures runs { RunsAreAnyDepth }
 {}

@@ -23,18 +23,7 @@ no_note : (w : What) → (IsNote w → ⊥) → note_of w ≡ []
 no_note (what.Recv f n v) h = absurd (h tt)
 no_note (what.Lost f n) h = absurd (h tt)
 no_note (what.Collide f n) h = absurd (h tt)
-no_note (what.Deaf f n) h = refl
-no_note (what.Start p) h = refl
-no_note (what.Leave p) h = refl
-no_note (what.Post n t e w) h = refl
-no_note (what.Full t e w) h = refl
-no_note (what.Take n p) h = refl
-no_note (what.Drop n p) h = refl
-no_note (what.Print p v) h = refl
-no_note (what.Busy p) h = refl
-no_note what.Halt h = refl
-no_note (what.Send n v) h = refl
-no_note what.Boots h = refl
+no_note x h = refl
 
 no_notes : (lines : List Line) → All (λ l. IsNote l.what → ⊥) lines → notes_in lines ≡ []
 no_notes [] h = refl

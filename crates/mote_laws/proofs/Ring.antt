@@ -136,20 +136,7 @@ passes receiver ring left l lines e h = record { handed = h.handed; all = rw e h
 
 none_received : (w : What) → IsApart w → received_of w ≡ []
 none_received (what.Recv f n v) h = absurd h
-none_received (what.Lost f n) h = refl
-none_received (what.Deaf f n) h = refl
-none_received (what.Collide f n) h = refl
-none_received (what.Start p) h = refl
-none_received (what.Leave p) h = refl
-none_received (what.Post n t e w) h = refl
-none_received (what.Full t e w) h = refl
-none_received (what.Take n p) h = refl
-none_received (what.Drop n p) h = refl
-none_received (what.Print p v) h = refl
-none_received (what.Busy p) h = refl
-none_received what.Halt h = refl
-none_received what.Boots h = refl
-none_received (what.Send n v) h = refl
+none_received x h = refl
 
 none_reported : (receiver : Option ℕ) (a : Arrival) (w : What) → TellsPacket receiver a w → received_of w ≡ []
 none_reported (Some p) a w Accepted = refl

@@ -1,7 +1,5 @@
 -- The list that is read from the buckets has the same items as the list that the buckets represent.
-use Rattle.std.proofs.Common.{◌≡◌, ℕ, zero, suc, ◌≤◌, Bool, true, false, not, ◌&&◌, ◌||◌, eqb, ltb, List, [], ◌∷◌}
-use Rattle.std.proofs.Common.{◌++◌, length, map, replicate, refl, sym, ap, ◌∙◌, subst, inl, inr, arith, append-nil}
-use Rattle.std.proofs.Common.{Some, None, unwrap_or}
+use Rattle.std.proofs.Common.{◌≡◌, ℕ, zero, suc, ◌≤◌, Bool, true, false, not, ◌&&◌, ◌||◌, eqb, ltb, List, [], ◌∷◌, ◌++◌, length, map, replicate, refl, sym, ap, ◌∙◌, subst, inl, inr, arith, append-nil, Some, None, unwrap_or}
 use Rattle.std.specs.List.{filter, list_any, flat_map, AllByRecursion}
 use Rattle.std.specs.List.Sorted.{IsPermutation, IsStrictlySortedBy}
 use Rattle.std.specs.Map.{lookup, keys_of}
@@ -11,16 +9,14 @@ use Rattle.std.specs.declared.cmp.Ordering.TheVariants.{Less}
 use Rattle.std.proofs.lemmas.Bool.{cases_Bool, eq-eqb, eqb-true, false≢true, lt-ltb}
 use Rattle.std.proofs.lemmas.Bool.Decides.{nat_tests}
 use Rattle.std.proofs.lemmas.List.Elements.{filter-append}
-use Rattle.std.proofs.lemmas.List.Sorted.{IsPermutation-refl, IsPermutation-sym, IsPermutation-trans}
-use Rattle.std.proofs.lemmas.List.Sorted.{IsPermutation-append, IsPermutation-filter_both}
+use Rattle.std.proofs.lemmas.List.Sorted.{IsPermutation-refl, IsPermutation-sym, IsPermutation-trans, IsPermutation-append, IsPermutation-filter_both}
 use Rattle.std.proofs.lemmas.Map.Keys.{sorted_head, sorted_tail}
 use Rattle.window_laws.specs.Agenda.{Item, Wake, Packet, comes_at, moment_of, mote_of, packets}
 use Rattle.window_laws.proofs.Agenda.{packets_filter, same_place}
 use Rattle.window_laws.proofs.Lists.{every_passes, no_more}
 use Rattle.net_agenda.specs.declared.bucket.Bucket.{Bucket}
 use Rattle.net_agenda.specs.declared.bucket.PendingEvent.{PendingEvent}
-use Rattle.net_agenda.specs.Buckets.{arrival_of, Due, nothing_due, is_wake, due_all, gathered, due_of, is_here}
-use Rattle.net_agenda.specs.Buckets.{item_at, items_in, Buckets, HoldsItems}
+use Rattle.net_agenda.specs.Buckets.{arrival_of, Due, nothing_due, is_wake, due_all, gathered, due_of, is_here, item_at, items_in, Buckets, HoldsItems}
 use Rattle.net_agenda.specs.Items.{copy_at, bucket_items, items_of, is_wake_at, AreSameItems}
 use Rattle.net_agenda.proofs.Gathered.{unwrapped, due_taken, any_same}
 use Rattle.net_agenda.proofs.Keys.{same_number}

@@ -1,5 +1,5 @@
 -- The moments of the buckets, and their entries in a map.
-use Rattle.std.proofs.Common.{◌≡◌, ℕ, Bool, true, false, cond, ltb, eqb, if◌then◌else◌, refl, inl, inr, arith, Option, option_map}
+use Rattle.std.proofs.Common.{◌≡◌, ℕ, Bool, true, false, cond, ltb, eqb, refl, inl, inr, arith}
 use Rattle.std.specs.Ordering.{nat_cmp, is_eq, is_gt, is_lt}
 use Rattle.std.specs.declared.cmp.Ordering.TheVariants.{Less, Equal, Greater}
 use Rattle.std.proofs.lemmas.Bool.{cases_order, lt-ltb, le-ltb, eq-eqb, ne_eqb}
@@ -19,10 +19,6 @@ not_greater k j =
       | inr (inl h) ↦ (let a = lt-ltb k j h in let c : ltb j k ≡ false = le-ltb j k (omega arith) in rw (a, c) refl)
       | inr (inr h) ↦ (let a : ltb k j ≡ false = le-ltb k j (omega arith) in let b : eqb k j ≡ false = ne_eqb k j (λ e. absurd (omega arith)) in let c = lt-ltb j k h in rw (a, b, c) refl)
     ]
-
-pub updated : {A B : Type 0} (f : A → B) (b c : Bool) (w x : Option A) → b ≡ c → option_map f (cond b w x) ≡ (if c then option_map f w else option_map f x)
-updated f b true w x e = rw e refl
-updated f b false w x e = rw e refl
 
 pub less_number : (k j : ℕ) → is_lt (nat_cmp k j) ≡ ltb k j
 less_number k j = of (ltb k j) (eqb k j)

@@ -1,8 +1,6 @@
 -- The change of a bucket at one moment, and the agenda that the buckets hold after it.
 use mathlib.Core.Bool.{and-false, and-true}
-use Rattle.std.proofs.Common.{◌≡◌, ℕ, true, false, cond, not, ◌&&◌, ◌||◌, ltb, eqb, if◌then◌else◌, List, [], ◌∷◌}
-use Rattle.std.proofs.Common.{◌++◌, map, refl, sym, ap, ◌∙◌, subst, inl, inr, arith, ◌≤◌, Option, Some, None}
-use Rattle.std.proofs.Common.{IsSome, unwrap_or}
+use Rattle.std.proofs.Common.{◌≡◌, ℕ, true, false, cond, not, ◌&&◌, ◌||◌, ltb, eqb, if◌then◌else◌, List, [], ◌∷◌, ◌++◌, map, refl, sym, ap, ◌∙◌, subst, inl, inr, arith, ◌≤◌, Option, Some, None, IsSome, unwrap_or}
 use Rattle.std.specs.List.{filter, list_any}
 use Rattle.std.specs.Ordering.{nat_cmp, is_eq, is_gt}
 use Rattle.std.specs.BTreeMap.{get, is_at}
@@ -17,13 +15,9 @@ use Rattle.window_laws.proofs.Ahead.{past_from}
 use Rattle.window_laws.proofs.Lists.{any_every}
 use Rattle.net_agenda.specs.declared.bucket.Bucket.{Bucket}
 use Rattle.net_agenda.specs.declared.bucket.PendingEvent.{PendingEvent}
-use Rattle.net_agenda.specs.Buckets.{goes_to, packet_in, arrival_of, arrivals_in_order, arrivals_at, nothing_due}
-use Rattle.net_agenda.specs.Buckets.{gathered, due_of, is_here, is_pending_for, of_mote, is_wake_for, arrivals_of, DescendIfSorted}
-use Rattle.net_agenda.specs.Buckets.{is_nothing, first_bucket_mote, IsTaken, IsReadyBucket, Buckets, HoldsItems, item_of, item_at}
-use Rattle.net_agenda.specs.Buckets.{items_in, bucket_items_at, without_wake}
+use Rattle.net_agenda.specs.Buckets.{goes_to, packet_in, arrival_of, arrivals_in_order, arrivals_at, nothing_due, gathered, due_of, is_here, is_pending_for, of_mote, is_wake_for, arrivals_of, DescendIfSorted, is_nothing, first_bucket_mote, IsTaken, IsReadyBucket, Buckets, HoldsItems, item_of, item_at, items_in, bucket_items_at, without_wake}
 use Rattle.net_agenda.proofs.Sorted.{first_low}
-use Rattle.net_agenda.proofs.Gathered.{unwrapped, due_both, due_elsewhere, due_taken, due_unwoken, due_asleep}
-use Rattle.net_agenda.proofs.Gathered.{any_same, from_due, held, then_out}
+use Rattle.net_agenda.proofs.Gathered.{unwrapped, due_both, due_elsewhere, due_taken, due_unwoken, due_asleep, any_same, from_due, held, then_out}
 use Rattle.net_agenda.proofs.Keys.{not_greater}
 use Rattle.net_agenda.proofs.Orders.{given_in_order, none_in_order}
 

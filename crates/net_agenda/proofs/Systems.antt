@@ -1,18 +1,16 @@
 -- A net runs forward, and the node after a turn has the wake that the turn returned.
-use Rattle.std.proofs.Common.{◌≡◌, ℕ, ◌<◌, List, length, map, subst, refl, Option, Some, None, option_map, unwrap_or}
-use Rattle.std.proofs.Common.{slice_get}
-use Rattle.program_tree.specs.Code.{Tree}
+use Rattle.std.proofs.Common.{◌≡◌, ℕ, ◌<◌, List, length, map, subst, refl, None}
 use Rattle.mote_node.specs.Turn.{Node, turn_of, wake_of}
 use Rattle.mote_node.proofs.WakeLaws.{wakes_later}
 use Rattle.radio_packet.specs.declared.copy.RadioCopy.{RadioCopy}
 use Rattle.radio_medium.specs.Medium.{medium_fault}
 use Rattle.radio_medium.proofs.Copies.{copies_later}
 use Rattle.radio_medium.proofs.Delays.{lookahead-above}
-use Rattle.mote_net.specs.Net.{MoteSetup, NetModel}
+use Rattle.mote_net.specs.Net.{NetModel}
 use Rattle.window_laws.specs.Forward.{RunsForward}
 use Rattle.window_laws.proofs.Lists.{every_weaker}
 use Rattle.net_agenda.specs.Buckets.{arrival_of}
-use Rattle.net_agenda.specs.NetSystem.{no_mote, node_turn, system_of}
+use Rattle.net_agenda.specs.NetSystem.{node_turn, system_of}
 
 pub system_is : (n : NetModel) → medium_fault n.radio ≡ None → length n.radio.places ≡ length n.motes → RunsForward (system_of n)
 unfolding system_of
@@ -26,10 +24,3 @@ system_is n fault placed = record {
 pub turn_wakes : (mote : ℕ) (state : Node) (moment : ℕ) (given : List RadioCopy) → (node_turn mote state moment given).wake ≡ wake_of (node_turn mote state moment given).state
 unfolding turn_of
 turn_wakes mote state moment given = refl
-
-pub tree_is : (motes : List MoteSetup) (k : ℕ) (t : Tree) → option_map (λ (m : MoteSetup). m.tree) (slice_get motes k) ≡ Some t → t ≡ (unwrap_or (slice_get motes k) no_mote).tree
-tree_is motes k t e = of (slice_get motes k) e
-  where
-    of : (o : Option MoteSetup) → option_map (λ (m : MoteSetup). m.tree) o ≡ Some t → t ≡ (unwrap_or o no_mote).tree
-    of None e = cc
-    of (Some m) e = cc

@@ -9,7 +9,7 @@ use Rattle.radio_packet.specs.declared.fate.Fate.{Fate}
 use Rattle.radio_medium.specs.declared.losses.Loss.{Loss}
 use Rattle.radio_medium.specs.Medium.{Radio, is_for_pair, every_of, is_lost, loses, hears, delay, receivers, motes, fate, fates}
 use Rattle.radio_faults.specs.declared.fault.Fault.{Fault}
-use Rattle.radio_faults.specs.declared.fault.Fault.TheVariants.{Link, Silent, Lost, LostToAll, Late, Off}
+use Rattle.radio_faults.specs.declared.fault.Fault.TheVariants.{Link, Silent}
 use Rattle.std.specs.Option.{option_and_then}
 use Rattle.radio_faults.specs.LossTables.{IsOfLinks, breaks, is_broken, links, broken_links, losing_all, radio_with}
 use Rattle.radio_faults.specs.Faults.{fate_after, fates_with}
@@ -144,10 +144,7 @@ after_test test false fate = named_is_lost (test fate.to) fate.to fate.at ∙ ap
 after_link : (fault : Fault) → IsOfLinks fault → (sent : Sent) (broken : Bool) (fate : Fate) → fate_after fault sent (fate_if broken fate) ≡ fate_if (breaks fault sent.sender fate.to || broken) fate
 after_link (Link from to) is sent broken fate = after_test (λ r. (from == sent.sender) && (to == r)) broken fate
 after_link (Silent mote) is sent broken fate = after_test (λ r. mote == sent.sender) broken fate
-after_link (Lost sender number to) is sent broken fate = absurd is
-after_link (LostToAll sender number) is sent broken fate = absurd is
-after_link (Late sender number to by) is sent broken fate = absurd is
-after_link (Off mote from until) is sent broken fate = absurd is
+after_link x is sent broken fate = absurd is
 
 -- the fates after all of them
 untouched : (sent : Sent) (fates : List Fate) → fates ≡ map (lost_by [] sent) fates

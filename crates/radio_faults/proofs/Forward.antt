@@ -5,7 +5,7 @@ use Rattle.std.specs.List.{AllByRecursion, filter_map, cons_option}
 use Rattle.radio_packet.specs.declared.copy.RadioCopy.{RadioCopy}
 use Rattle.radio_packet.specs.declared.sent.Sent.{Sent}
 use Rattle.radio_faults.specs.declared.fault.Fault.{Fault}
-use Rattle.radio_faults.specs.declared.fault.Fault.TheVariants.{Link, Silent, Lost, LostToAll, Late, Off}
+use Rattle.radio_faults.specs.declared.fault.Fault.TheVariants.{Late}
 use Rattle.radio_faults.specs.Faults.{names, named_arrival, copy_after, copies_with}
 use Rattle.radio_faults.specs.Off.{boot_by, boots, if_later, is_off, next_boot, sooner}
 use Rattle.window_laws.specs.System.{System, Turned, IsCopyOf}
@@ -17,12 +17,8 @@ use Rattle.radio_faults.specs.NetLaws.{FaultsRunForward}
 module _ (P : RadioCopy → Type 0) (later : (copy : RadioCopy) → P copy → (at : ℕ) → copy.at ≤ at → P (record copy { at = at })) where
   named_later : (fault : Fault) (copy : RadioCopy) → P copy → (rest : List RadioCopy) → AllByRecursion P rest
       → AllByRecursion P (cons_option (option_map (λ at. record copy { at = at }) (named_arrival fault copy.at)) rest)
-  named_later (Link s r) copy is rest all = all
-  named_later (Silent m) copy is rest all = all
-  named_later (Lost s n r) copy is rest all = all
-  named_later (LostToAll s n) copy is rest all = all
   named_later (Late s n r by) copy is rest all = (later copy is (copy.at + by) (omega arith), all)
-  named_later (Off m from until) copy is rest all = all
+  named_later x copy is rest all = all
 
   one_later : (fault : Fault) (copy : RadioCopy) → P copy → (named : Bool) (rest : List RadioCopy) → AllByRecursion P rest
       → AllByRecursion P (cons_option (option_map (λ at. record copy { at = at }) (if named then named_arrival fault copy.at else Some copy.at)) rest)

@@ -10,7 +10,7 @@ use Rattle.radio_packet.specs.declared.copy.RadioCopy.{RadioCopy}
 use Rattle.radio_packet.specs.declared.fate.Fate.{Fate}
 use Rattle.radio_packet.specs.declared.sent.Sent.{Sent}
 use Rattle.radio_faults.specs.declared.fault.Fault.{Fault}
-use Rattle.radio_faults.specs.declared.fault.Fault.TheVariants.{Link, Silent, Lost, LostToAll, Late, Off}
+use Rattle.radio_faults.specs.declared.fault.Fault.TheVariants.{Late, Off}
 use Rattle.radio_faults.specs.Faults.{names, arrival_after, copy_after, copies_with, fate_after, fates_with}
 use Rattle.radio_faults.specs.Off.{boot_by, if_later, is_at, keeps_off, next_boot, sooner}
 use Rattle.std.proofs.lemmas.Bool.Decides.{nat_tests}
@@ -49,12 +49,9 @@ module _ (s n r : ℕ) where
 
   one_more : (fault : Fault) (lost : Bool) (delays at : ℕ) → option_and_then (arrival_after fault s n r) (outcome lost delays at) ≡ outcome (loses fault || lost) (delay fault + delays) at
   one_more fault true delays at = still_lost (loses fault) (delay fault + delays) at
-  one_more (Link from to) false delays at = lost_if (names (Link from to) s n r) delays at
-  one_more (Silent mote) false delays at = lost_if (names (Silent mote) s n r) delays at
-  one_more (Lost sender number to) false delays at = lost_if (names (Lost sender number to) s n r) delays at
-  one_more (LostToAll sender number) false delays at = lost_if (names (LostToAll sender number) s n r) delays at
   one_more (Late sender number to by) false delays at = late_if (names (Late sender number to by) s n r) by delays at
   one_more (Off mote from until) false delays at = lost_if false delays at
+  one_more x false delays at = lost_if (names x s n r) delays at
 
   -- one more fault after all others
   after_all : (fault : Fault) (faults : List Fault) (at : ℕ) → option_and_then (arrival_after fault s n r) (with_all faults at) ≡ with_all (fault ∷ faults) at

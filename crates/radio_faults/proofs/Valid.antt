@@ -14,11 +14,6 @@ use Rattle.radio_faults.proofs.AnyOf.{any-map, any-flat_map, any-filter, none_st
 abbrev total : ℕ × ℕ → Loss
 total link = record { sender = link.0; to = link.1; every = 1 }
 
-never_both : (b c : Bool) → (b && (c && not b)) ≡ false
-never_both true true = refl
-never_both true false = refl
-never_both false c = refl
-
 and_not : (b : Bool) → (b && not b) ≡ false
 and_not true = refl
 and_not false = refl

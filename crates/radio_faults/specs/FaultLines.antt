@@ -17,10 +17,6 @@ abbrev pub is_fault_line : (line : List ℕ) → Bool
 is_fault_line [] = false
 is_fault_line (first ∷ rest) = not (first == 35)
 
--- the lines of a text that are faults
-abbrev pub fault_lines : (text : List ℕ) → List (List ℕ)
-fault_lines text = filter is_fault_line (lines_of text)
-
 -- the words of a line, which single spaces part
 abbrev pub words_of : (line : List ℕ) → List (List ℕ)
 words_of line = slice_split (λ byte. byte == 32) line

@@ -1,5 +1,5 @@
 -- Reports with other faults.
-use Rattle.std.proofs.Common.{◌≡◌, ℕ, ◌&&◌, ◌||◌, Bool, true, false, List, [], ◌∷◌, map, Option, Some, None, refl, sym, ap, ap₂, ◌∙◌, length, if◌then◌else◌}
+use Rattle.std.proofs.Common.{◌≡◌, ℕ, ◌&&◌, Bool, true, false, List, [], ◌∷◌, map, Option, Some, None, refl, sym, ap, ap₂, ◌∙◌, length, if◌then◌else◌}
 use Rattle.std.specs.List.{AllByRecursion, filter_map, list_any}
 use Rattle.std.specs.Option.{option_and_then}
 use Rattle.std.proofs.lemmas.Bool.{or_parts}
@@ -7,13 +7,10 @@ use Rattle.radio_packet.specs.declared.fate.Fate.{Fate}
 use Rattle.radio_packet.specs.declared.sent.Sent.{Sent}
 use Rattle.radio_medium.specs.Medium.{copies, copy_of, fates}
 use Rattle.radio_faults.specs.declared.fault.Fault.{Fault}
-use Rattle.radio_faults.specs.declared.fault.Fault.TheVariants.{Link, Silent, Lost, LostToAll, Late, Off}
-use Rattle.radio_faults.specs.LossTables.{IsOfLinks}
-use Rattle.radio_packet.specs.declared.copy.RadioCopy.{RadioCopy}
-use Rattle.mote_node.specs.Turn.{Node}
+use Rattle.radio_faults.specs.declared.fault.Fault.TheVariants.{Link, Silent, Off}
+use Rattle.radio_faults.specs.LossTables.{IsOfLinks, radio_with}
 use Rattle.radio_faults.specs.NetLaws.{AreOffTheSame, LeavesOn}
 use Rattle.radio_faults.specs.Faults.{names, named_arrival, copies_with, fate_after, fates_with}
-use Rattle.radio_faults.specs.LossTables.{radio_with}
 use Rattle.radio_faults.proofs.Broken.{loss_tables_agree as of_medium}
 use Rattle.radio_faults.proofs.Copies.{fates_tell_copies}
 use Rattle.window_laws.specs.Agenda.{packets, up_to}
@@ -79,12 +76,8 @@ all_untouched faults fault model (sent ∷ log) none =
 
 -- a fault of copies leaves all motes on
 leaves_on : (fault : Fault) (end : ℕ) → is_of_motes fault ≡ false → LeavesOn fault end
-leaves_on (Link from to) end e = record { on = λ mote moment le. refl; no_boot = λ mote. refl }
-leaves_on (Silent k) end e = record { on = λ mote moment le. refl; no_boot = λ mote. refl }
-leaves_on (Lost sender number to) end e = record { on = λ mote moment le. refl; no_boot = λ mote. refl }
-leaves_on (LostToAll sender number) end e = record { on = λ mote moment le. refl; no_boot = λ mote. refl }
-leaves_on (Late sender number to by) end e = record { on = λ mote moment le. refl; no_boot = λ mote. refl }
 leaves_on (Off k from until) end e = absurd (cc)
+leaves_on x end e = record { on = λ mote moment le. refl; no_boot = λ mote. refl }
 
 pub unsent_is_nothing : UnsentIsNothing
 unsent_is_nothing faults fault model r report none =
@@ -108,10 +101,7 @@ module _ (faults : List Fault) (model : NetModel) where
 of_links : (fault : Fault) → IsOfLinks fault → is_of_motes fault ≡ false
 of_links (Link from to) is = refl
 of_links (Silent k) is = refl
-of_links (Lost sender number to) is = absurd is
-of_links (LostToAll sender number) is = absurd is
-of_links (Late sender number to by) is = absurd is
-of_links (Off k from until) is = absurd is
+of_links x is = absurd is
 
 -- with faults of links motes are off as without faults
 none_off : (faults : List Fault) → AllByRecursion IsOfLinks faults → (end : ℕ) → AreOffTheSame [] faults end

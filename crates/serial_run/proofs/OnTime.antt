@@ -1,7 +1,5 @@
 -- In the run of a net the turns of each mote are at rising moments.
-use Rattle.std.proofs.Common.{◌≡◌, ℕ, suc, length, ◌<◌, ◌≤◌, true, false, not, ◌&&◌, ◌||◌, nat_le, ltb, eqb, List}
-use Rattle.std.proofs.Common.{[], ◌∷◌, get_or, Option, Some, None, refl, sym, ◌∙◌, subst, arith}
-use Rattle.std.proofs.Common.{zero-le}
+use Rattle.std.proofs.Common.{◌≡◌, ℕ, suc, length, ◌<◌, ◌≤◌, true, false, not, ◌&&◌, ◌||◌, nat_le, ltb, eqb, List, [], ◌∷◌, get_or, Option, Some, None, refl, sym, ◌∙◌, subst, arith, zero-le}
 use Rattle.std.specs.List.{AllByRecursion}
 use Rattle.std.proofs.lemmas.Bool.Decides.{nat_tests}
 use Rattle.trace_lines.specs.declared.line.Line.{Line}

@@ -22,9 +22,7 @@ pub stamped_is : (t m : ℕ) (sends : List Sent) → PacketsBear t m sends → m
 stamped_is t m [] h = refl
 stamped_is t m (x ∷ xs) h =
     let bears = All-head (λ (x : Sent). (x.at ≡ t) × (x.sender ≡ m)) x xs h in
-    let at = bears.0 in
-    let sender = bears.1 in
-    let head : stamped t m x ≡ x = rw (← at, ← sender) refl in
+    let head : stamped t m x ≡ x = rw (← bears.0, ← bears.1) refl in
     ap₂ (λ y ys. y ∷ ys) head (stamped_is t m xs (All-tail (λ (x : Sent). (x.at ≡ t) × (x.sender ≡ m)) x xs h))
 
 module _ (faults : List Fault) (n : NetModel) where

@@ -1,6 +1,5 @@
 -- In each trace of a net the moments never go back, and the packets of each mote are numbered in order.
-use Rattle.std.proofs.Common.{◌≡◌, ℕ, ◌+◌, ◌<◌, ◌≤◌, true, false, eqb, List, [], ◌∷◌, ◌++◌, length}
-use Rattle.std.proofs.Common.{map, refl, sym, ap, ◌∙◌, subst, inl, inr, arith, zero-le, append-nil}
+use Rattle.std.proofs.Common.{◌≡◌, ℕ, ◌+◌, ◌<◌, ◌≤◌, true, false, eqb, List, [], ◌∷◌, ◌++◌, length, map, refl, sym, ap, ◌∙◌, subst, inl, inr, arith, zero-le, append-nil}
 use Rattle.std.specs.List.{All, range_with_len, AllByRecursion}
 use Rattle.std.proofs.lemmas.Bool.{cases_eq, eq-eqb, ne_eqb}
 use Rattle.std.proofs.lemmas.List.{length-append, length-map}
@@ -20,8 +19,7 @@ use Rattle.serial_run.proofs.EachTurn.{each_turn}
 use Rattle.mote_net.specs.Net.{NetModel}
 use Rattle.window_laws.specs.System.{Turned}
 use Rattle.window_laws.specs.Forward.{IsLater}
-use Rattle.window_laws.specs.Agenda.{Item, moment_of, mote_of, is_left, is_from, IsLeast}
-use Rattle.window_laws.specs.Agenda.{up_to}
+use Rattle.window_laws.specs.Agenda.{Item, moment_of, mote_of, is_left, is_from, IsLeast, up_to}
 use Rattle.net_agenda.specs.NetSystem.{system_of, first_node_in, mote_at}
 use Rattle.mote_net.specs.Report.{ReportModel, Packet as OfReport}
 use Rattle.serial_run.specs.FaultRun.{boots_line, net_with, node_again, packet_with}
@@ -103,8 +101,7 @@ all_traces P traces (k ∷ ks) h = All-cons P (traces k) (map traces ks) (h k) (
 
 pub traces_never_go_back : TracesNeverGoBack
 traces_never_go_back faults n r report =
-    let last = report.last in
-    rw (report.matches) (all_traces NeverGoBack last.traces (up_to (length n.motes)) (run_rises faults n report.run 0 (boot_rises faults n)))
+    rw (report.matches) (all_traces NeverGoBack report.last.traces (up_to (length n.motes)) (run_rises faults n report.run 0 (boot_rises faults n)))
 
 -- the packets
 

@@ -147,9 +147,6 @@ now_same runs course done level is =
     let P : List (List ℕ × ℕ) → Type 0 = λ t. SameBelow (course.size + 1) course.start t in
     subst P (sym is.found) (grown_same course.size course.start is.more (λ B c at. let l = is.of_size B c at in omega arith))
 
-back_same : (m : ℕ) (a b : List (List ℕ × ℕ)) → SameBelow m a b → SameBelow m b a
-back_same m a b same F lt c = ((same F lt c).1, (same F lt c).0)
-
 -- a pruned set was pruned from the start
 pub pruned_from_start : (runs : Runs) (course : Course) (done : List (List ℕ)) (level : Level) (F : List ℕ) → IsAt runs course done level → length F ≡ course.size
     → IsPruned runs.claims (breaks_of level.found.items) F → IsPruned runs.claims course.start F

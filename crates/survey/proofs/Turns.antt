@@ -5,7 +5,7 @@ use Rattle.std.proofs.lemmas.List.Elements.{Contains-append_left, Contains-appen
 use Rattle.survey.specs.FaultSet.{IsSet}
 use Rattle.survey.specs.Order.{IsNode}
 use Rattle.survey.specs.Order.IsNode.{Root, Child}
-use Rattle.survey.specs.Turns.{HasSmallerBreak, IsPruned, IsWorthRun, Picks, StopsIn, AreSetsOfSize, AreTried, AreListedIn, IsRising, children}
+use Rattle.survey.specs.Turns.{HasSmallerBreak, IsPruned, Picks, StopsIn, AreSetsOfSize, AreTried, AreListedIn, IsRising, children}
 use Rattle.survey.proofs.Within.{set_front}
 
 abbrev Breaks : Type 0
@@ -124,12 +124,6 @@ module _ (claims : ℕ) (breaks : Breaks) where
       let m = in_map (λ k. r.0 ++ k ∷ []) (next r.0) F r.2 in
       let one = sets_size next size is.0 r.0 is.2 (picked_from is.0 is.1 r.0 is.3 r.1) in
       omega (arith, ap length m.2, length-append r.0 (m.0 ∷ []))
-
-  pub one_pruned : (F : List ℕ) → IsPruned claims breaks F → Picks claims breaks (F ∷ []) []
-  one_pruned F pruned = inl (pruned, refl)
-
-  pub one_worth : (F : List ℕ) → IsWorthRun claims breaks F → Picks claims breaks (F ∷ []) (F ∷ [])
-  one_worth F worth = inr (worth, [], refl, refl)
 
 -- the same smaller sets are listed within the sets of fewer faults than m
 abbrev pub SameBelow : ℕ → Breaks → Breaks → Type 0

@@ -1,10 +1,8 @@
 -- Pages of consecutive lines, one after another.
-use Rattle.std.proofs.Common.{◌≡◌, ℕ, zero, suc, ◌+◌, ◌-◌, ◌*◌, ◌<◌, ◌≤◌, List, [], ◌∷◌, ◌++◌, length, take, drop, slice_index_or, Result, Ok, IfOk, refl, ap, sym, subst, ◌∙◌, arith}
-use Rattle.std.proofs.Common.{append-nil, take-append-drop, Option}
+use Rattle.std.proofs.Common.{◌≡◌, ℕ, suc, ◌+◌, ◌-◌, ◌*◌, ◌<◌, List, [], ◌∷◌, ◌++◌, length, take, drop, slice_index_or, Result, Ok, IfOk, ap, sym, subst, ◌∙◌, arith, append-nil, take-append-drop, Option}
 use Rattle.std.specs.Io.KnownBytes.{Appends}
 use Rattle.std.specs.List.{concat}
 use Rattle.std.proofs.lemmas.List.Folds.{concat-append}
-use Rattle.std.proofs.Math.ListN.{drop_of_length-le}
 use Rattle.trace_printer.specs.Output.{AppendsFront}
 use Rattle.std.specs.declared.alloc.AllocError.{AllocError}
 use Rattle.trace_printer.specs.Page.{Written}
@@ -42,7 +40,3 @@ pub rest_next : (lines : List (List ℕ)) (skip count : ℕ) → concat (drop sk
 rest_next lines skip count =
     ap concat (sym (take-append-drop count (drop skip lines))) ∙ concat-append (take count (drop skip lines)) (drop count (drop skip lines))
     ∙ ap (λ (l : List (List ℕ)). part_text lines skip count ++ concat l) (drop_drop skip count lines)
-
--- no line is left after the last one
-pub rest_none : (lines : List (List ℕ)) (skip : ℕ) → length lines ≤ skip → concat (drop skip lines) ≡ []
-rest_none lines skip past = ap concat (drop_of_length-le lines past)

@@ -82,12 +82,8 @@ pub short_bytes : ℕ → List ℕ
 short_bytes n = get_or SHORT (n * 4) 0 ∷ get_or SHORT (n * 4 + 1) 0 ∷ get_or SHORT (n * 4 + 2) 0 ∷ get_or SHORT (n * 4 + 3) 0 ∷ []
 
 four_bytes : (xs : List ℕ) → length xs ≡ 4 → xs ≡ get_or xs 0 0 ∷ get_or xs 1 0 ∷ get_or xs 2 0 ∷ get_or xs 3 0 ∷ []
-four_bytes [] h = absurd (omega arith)
-four_bytes (a ∷ []) h = absurd (omega arith)
-four_bytes (a ∷ b ∷ []) h = absurd (omega arith)
-four_bytes (a ∷ b ∷ c ∷ []) h = absurd (omega arith)
 four_bytes (a ∷ b ∷ c ∷ d ∷ []) h = refl
-four_bytes (a ∷ b ∷ c ∷ d ∷ e ∷ xs) h = absurd (omega arith)
+four_bytes x h = absurd (omega arith)
 
 byte_at : (n i : ℕ) → i < 4 → get_or (take 4 (drop (n * 4) SHORT)) i 0 ≡ get_or SHORT (n * 4 + i) 0
 byte_at n i h = get_or-take 4 (drop (n * 4) SHORT) i 0 h ∙ get_or-drop (n * 4) SHORT i 0

@@ -1,12 +1,9 @@
 -- The lines of all traces, and the text of some of them.
-use Rattle.std.proofs.Common.{◌≡◌, ℕ, zero, suc, ◌+◌, ◌-◌, ◌<◌, ◌≤◌, List, [], map, ◌∷◌, ◌++◌, length, get_or, take}
-use Rattle.std.proofs.Common.{drop, refl, ap, sym, ◌∙◌, add-one, arith, append_assoc, Vec, Global, Some, slice_get}
-use Rattle.std.proofs.Common.{option_map, codes, decimal}
+use Rattle.std.proofs.Common.{◌≡◌, ℕ, zero, suc, ◌+◌, ◌-◌, ◌<◌, List, [], map, ◌∷◌, ◌++◌, length, get_or, take, drop, refl, ap, sym, ◌∙◌, add-one, arith, append_assoc, Vec, Global, Some, slice_get, option_map, codes, decimal}
 use Rattle.std.specs.List.{concat, flat_map, sum_by}
 use Rattle.std.proofs.lemmas.List.{drop-map, length-append, length-map, take-map}
 use Rattle.std.proofs.lemmas.List.Folds.{concat-append}
 use Rattle.std.proofs.lemmas.List.Sums.{sum_by-cons}
-use Rattle.std.proofs.Math.ListN.{drop_of_length-le}
 use Rattle.std.proofs.Math.Seq.{take-nil, drop-nil, take-add}
 use Rattle.program_tree.specs.Code.{Tree}
 use Rattle.trace_lines.specs.declared.line.Line.{Line}
@@ -91,10 +88,6 @@ lines_next n (m ∷ ms) (x ∷ ts) zero t name tree lines h same named grown is 
     (ap (mote_lines n m) (sym is) ∙ mote_shows n m name tree lines named grown)
 lines_next n (m ∷ ms) (x ∷ ts) (suc i) t name tree lines h same named grown is =
     simp add-one (simp add-one at (lines_next n ms ts i t name tree lines (omega arith) (omega arith) named grown is))
-
--- no mote is left
-pub lines_end : (n : ℕ) (ms : List MoteSetup) (ts : List (Vec Line Global)) (i : ℕ) → length ms ≤ i → lines_from n (drop i ms) (map trace_lines_in (drop i ts)) ≡ []
-lines_end n ms ts i h = rw (drop_of_length-le ms h) refl
 
 -- the number of lines that the motes show
 pub lines_counted : (n : ℕ) (ms : List MoteSetup) (ts : List (Vec Line Global)) → length ts ≡ length ms → length (lines_from n ms (map trace_lines_in ts)) ≡ sum_by (λ t. length t.items + 1) ts

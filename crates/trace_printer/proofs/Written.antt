@@ -55,11 +55,6 @@ written_then a b c (Ok u) text rest w more = subst (Appends a c) (sym w.whole) (
 written_then a b c (Err e) text rest w (front, byte, back, split, more) =
     (w.done ++ front, byte, back, w.whole ∙ ap (λ l. w.done ++ l) split ∙ sym (append_assoc w.done front (byte ∷ back)), Appends-trans a b c w.done front w.appended more)
 
--- all of a text is written, or a prefix before an error
-pub writes_all_but : {E : Type 0} (a b : Option (List ℕ)) (r : Result (Unit {0}) E) (text : List ℕ) → Writes a b r text → (rest : List ℕ) × Written a b text rest
-writes_all_but a b (Ok u) text h = ([], record { done = text; whole = sym (append-nil text); appended = h })
-writes_all_but a b (Err e) text (front, byte, rest, split, more) = (byte ∷ rest, record { done = front; whole = split; appended = more })
-
 -- one text is printed, and all of another except a rest is written
 printed_both : (a b c : Option (List ℕ)) (p q rest one other : List ℕ) → Written a b (p ++ one) q → Written b c (q ++ other) rest → Written a c (p ++ (one ++ other)) rest
 printed_both a b c p q rest one other w more =
@@ -74,14 +69,6 @@ pub prints_then : {E : Type 0} (a b c : Option (List ℕ)) (p q s : List ℕ) (r
     → Written a b (p ++ one) q → Prints b c q s r other → Prints a c p s r (one ++ other)
 prints_then a b c p q s (Ok u) one other w more = printed_both a b c p q s one other w more
 prints_then a b c p q s (Err e) one other w (rest, more) = (rest, printed_both a b c p q rest one other w more)
-
--- a text is appended to the page
-pub printed_put : (a : Option (List ℕ)) (p q text : List ℕ) → q ≡ p ++ text → Written a a (p ++ text) q
-printed_put a p q text is = subst (λ l. Written a a l q) is (written_none a q)
-
--- nothing is appended to the page
-pub printed_nothing : (a : Option (List ℕ)) (p : List ℕ) → Written a a (p ++ []) p
-printed_nothing a p = printed_put a p p [] (sym (append-nil p))
 
 -- a text is appended to the page, which is then written if it is full
 pub put_printed : (a b : Option (List ℕ)) (p q s text : List ℕ) → q ≡ p ++ text → Written a b (q ++ []) s → Written a b (p ++ text) s

@@ -12,14 +12,13 @@ use Rattle.claims.proofs.witness.one_missing.Goals as goal
 pub returns-in-Some : goal.returns-in-Some
 returns-in-Some c =
     let r = report_of c.args.report.now in
-    let us = c.deref-case-items.result.now in
     let case = c.case-item.result in
     record {
       shows = (
         c.requires.too_few,
         record {
           case = case;
-          there = item_there c.args.claim.now.cases.items us c.loop-place.place case c.deref-case-items.ensures.value c.loop-place-test.true c.case-item.is;
+          there = item_there c.args.claim.now.cases.items c.deref-case-items.result.now c.loop-place.place case c.deref-case-items.ensures.value c.loop-place-test.true c.case-item.is;
           before = subst (λ (l : List Case). list_all (λ k. case_holds k r) (take c.loop-place.place l) ≡ true) c.deref-case-items.ensures.value c.loop-place.invariant;
           shown = subst (λ o. IfSome o (ShowsTest case r)) c.in-Some.is c.in_ok-found.ensures.shows;
         },

@@ -8,14 +8,13 @@ pub returns-then-left-eq0-clause-shows : goal.returns-then-left-eq0-clause-shows
 returns-then-left-eq0-clause-shows c =
     let r = report_of c.args.report.now in
     let us = c.deref-case-items.result.now in
-    let cases = c.args.claim.now.cases.items in
     let place = c.loop-place.place in
     let case = c.case-item.result in
     let before : c.args.most ≡ count_by (λ k. case_holds k r) (take place us) = omega (arith, c.loop-place.invariant) in (
       c.requires.enough,
       record {
         case = case;
-        there = item_there cases us place case c.deref-case-items.ensures.value c.loop-place-test.true c.case-item.is;
+        there = item_there c.args.claim.now.cases.items us place case c.deref-case-items.ensures.value c.loop-place-test.true c.case-item.is;
         before = c.requires.most ∙ ap Some (before ∙ ap (λ l. count_by (λ k. case_holds k r) (take place l)) c.deref-case-items.ensures.value);
         holds = sym c.holds.ensures.value ∙ c.if-holds.true;
         line = c.shown_in.ensures.value;

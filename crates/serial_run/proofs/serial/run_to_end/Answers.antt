@@ -15,8 +15,7 @@ use Rattle.serial_run.proofs.serial.run_to_end.Goals as goal
 pub turns-init : goal.turns-init
 turns-init c =
     let n = net_of c.args.net.now in
-    let engine = c.args.engine.now in
-    record { whole = c.requires.is_whole; reached = reached_first c.args.faults.now n engine c.requires.boot }
+    record { whole = c.requires.is_whole; reached = reached_first c.args.faults.now n c.args.engine.now c.requires.boot }
 
 pub turn-requires-clause-mote_exists : goal.turn-requires-clause-mote_exists
 turn-requires-clause-mote_exists c =

@@ -16,6 +16,5 @@ returns-clause-report c =
 pub returns-clause-lives : goal.returns-clause-lives
 returns-clause-lives c =
     let n = net_of c.args.net.now in
-    let at = c.in_ok-run_to_end.ensures.ended in
     let whole = c.in_ok-run_to_end.ensures.is_whole in
-    all_live c.args.faults.now n c.run_to_end.new.engine (record { motes = whole.motes; wakes = whole.wakes; traces = whole.traces }) at
+    all_live c.args.faults.now n c.run_to_end.new.engine (record { motes = whole.motes; wakes = whole.wakes; traces = whole.traces }) c.in_ok-run_to_end.ensures.ended

@@ -30,23 +30,20 @@ pub end_task-requires-clause-set : goal.end_task-requires-clause-set
 end_task-requires-clause-set g c =
     let runs = g.T.Trial.runs c.args.trial.now in
     let q = c.requires.in_course in
-    let inv = c.loop-place.invariant in
     let tasks = c.args.level.now.waiting.items in
-    let task = c.index.result.now in
     let own : vec_len c.args.level.now.waiting ≡ length tasks = search rules in
     let lt : c.loop-place.place < length tasks = omega (arith, own, c.len-place-end.ensures, c.loop-place-test.true) in
-    (task_at runs q.0 tasks c.loop-place.level.waiting.items c.loop-place.place task q.2.3 inv.waiting lt c.index.ensures).0.set
+    (task_at runs q.0 tasks c.loop-place.level.waiting.items c.loop-place.place c.index.result.now q.2.3 c.loop-place.invariant.waiting lt c.index.ensures).0.set
 
 pub end_task-requires-clause-outcome : goal.end_task-requires-clause-outcome
 end_task-requires-clause-outcome g c =
     let runs = g.T.Trial.runs c.args.trial.now in
     let q = c.requires.in_course in
-    let inv = c.loop-place.invariant in
     let tasks = c.args.level.now.waiting.items in
     let task = c.index.result.now in
     let own : vec_len c.args.level.now.waiting ≡ length tasks = search rules in
     let lt : c.loop-place.place < length tasks = omega (arith, own, c.len-place-end.ensures, c.loop-place-test.true) in
-    let at = task_at runs q.0 tasks c.loop-place.level.waiting.items c.loop-place.place task q.2.3 inv.waiting lt c.index.ensures in
+    let at = task_at runs q.0 tasks c.loop-place.level.waiting.items c.loop-place.place task q.2.3 c.loop-place.invariant.waiting lt c.index.ensures in
     let P : List Task → Type 0 = λ t. AreOutcomes runs t c.in_ok-outcomes.outcomes.items in
     let are = subst P c.deref.ensures.value c.in_ok-outcomes.ensures.outcomes in
     outcome_at runs tasks c.in_ok-outcomes.outcomes.items c.loop-place.place task c.index-in-loop-place.result.now are lt at.1 c.index-in-loop-place.ensures
@@ -57,10 +54,9 @@ end_task-requires-clause-kept g c =
     let q = c.requires.in_course in
     let inv = c.loop-place.invariant in
     let tasks = c.args.level.now.waiting.items in
-    let task = c.index.result.now in
     let own : vec_len c.args.level.now.waiting ≡ length tasks = search rules in
     let lt : c.loop-place.place < length tasks = omega (arith, own, c.len-place-end.ensures, c.loop-place-test.true) in
-    let at = task_at runs q.0 tasks c.loop-place.level.waiting.items c.loop-place.place task q.2.3 inv.waiting lt c.index.ensures in
+    let at = task_at runs q.0 tasks c.loop-place.level.waiting.items c.loop-place.place c.index.result.now q.2.3 inv.waiting lt c.index.ensures in
     let K : ℕ → Type 0 = λ k. IsKept runs.bound k runs.holds runs.claims (breaks_of c.loop-place.level.found.items) in
     subst K (sym at.0.of_size) (inv.at q.0 q.2.0 q.2.1 q.2.3).kept
 
@@ -101,9 +97,8 @@ loop-place-preserved g c =
 pub returns-clause-tried : goal.returns-clause-tried
 returns-clause-tried g c course tried has =
     let runs = g.T.Trial.runs c.args.trial.now in
-    let inv = c.loop-place.invariant in
     let tasks = c.args.level.now.waiting.items in
     let own : vec_len c.args.level.now.waiting ≡ length tasks = search rules in
     let level : Level = record { found = c.loop-place.level.found; trials = c.loop-place.level.trials; nodes = c.loop-place.level.nodes; waiting = c.clear.new.self } in
     let all : length (sets_of tasks) ≤ c.loop-place.place = omega (arith, own, c.len-place-end.ensures, c.loop-place-test.false, length-map tasks (λ (t : Task). t.set.items)) in
-    none_waits runs course tried has.0 c.args.level.now c.loop-place.level level c.loop-place.place (inv.at course has.0 has.1 has.3) all has.2 refl refl refl c.clear.ensures.items
+    none_waits runs course tried has.0 c.args.level.now c.loop-place.level level c.loop-place.place (c.loop-place.invariant.at course has.0 has.1 has.3) all has.2 refl refl refl c.clear.ensures.items

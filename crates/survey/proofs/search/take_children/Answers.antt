@@ -19,12 +19,11 @@ take_task-requires-clause-in_course g c =
     let q = c.requires.in_course in
     let node = c.args.node.now in
     let place = c.loop-place.place in
-    let task = c.in_ok-task.task in
     let e = c.in_ok-task.ensures in
     let own : vec_len node.next ≡ length node.next.items = search rules in
     let lt : place < length node.next.items = omega (arith, own, c.len-place-end.ensures, c.loop-place-test.true) in
     let a = c.loop-place.invariant.looks q.0 q.1 q.2 q.3 in
-    (q.0, q.1 ++ a.0, a.1, child_fits runs (g.met.T.Trial.offers_all t) q.0 c.args.goes_on node place task q.3 lt e.set e.asleep e.goes_on, c.loop-place.invariant.limit)
+    (q.0, q.1 ++ a.0, a.1, child_fits runs (g.met.T.Trial.offers_all t) q.0 c.args.goes_on node place c.in_ok-task.task q.3 lt e.set e.asleep e.goes_on, c.loop-place.invariant.limit)
 
 pub returns-then-not-branch-clause-looks : goal.returns-then-not-branch-clause-looks
 returns-then-not-branch-clause-looks g c =

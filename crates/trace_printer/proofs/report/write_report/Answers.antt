@@ -6,8 +6,7 @@ use Rattle.mote_net.specs.Meaning.{net_of}
 use Rattle.mote_net.specs.Report.{trace_lines_in, report_of}
 use Rattle.mote_net.specs.declared.report.Report.{Report}
 use Rattle.trace_printer.specs.ReportText.{motes_text, medium_text, left_text, report_text}
-use Rattle.trace_printer.proofs.Written.{written_none, written_start, written_front, written_then, printed_next}
-use Rattle.trace_printer.proofs.Written.{stopped_before}
+use Rattle.trace_printer.proofs.Written.{written_none, written_start, written_front, written_then, printed_next, stopped_before}
 use Rattle.trace_printer.proofs.report.write_report.Goals as goal
 
 -- the parts of a report's text

@@ -10,9 +10,8 @@ returns-in-Some-get_mut-clause-held c =
     let old = c.args.self.now.buckets in
     let sent = c.args.sent.now in
     let t = c.in-Some.moment in
-    let b = c.in-Some-get_mut.bucket.now in
     let d = c.put_fates.new.self in
-    let found : get nat_cmp old t ≡ Some b = sym c.in-Some-get_mut.ensures.value in
+    let found : get nat_cmp old t ≡ Some c.in-Some-get_mut.bucket.now = sym c.in-Some-get_mut.ensures.value in
     if_all c.put_fates.result (λ n more filled is_sorted items holds.
     subst (λ f. HoldsItems (c.get_mut.follows.lender d) (items ++ copies_with sent (f ∷ take n c.args.later.now))) (this_fate c.args.fate.now t c.in-Some.is)
     (put_many old (c.get_mut.follows.lender d) t d items _ holds (more ∙ ap (λ l. l ++ copies_with sent (record { to = c.args.fate.now.to; at = Some t } ∷ take n c.args.later.now)) (sym (ap (items_in t) found))) filled is_sorted

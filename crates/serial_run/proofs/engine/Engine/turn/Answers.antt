@@ -33,7 +33,6 @@ returns-clause-in_state c = λ state at.
     let n = net_of c.args.net.now in
     let t = c.args.moment in
     let m = c.args.number in
-    let takes = c.in_ok-next.ensures.one_takes_turn in
     let taken = c.take_due_into.ensures.rest state.agenda at.agenda in
     let wakes = c.args.self.now.wakes.items in
     let kept = c.index.ensures ∙ ap (λ k. get_or wakes k c.index.result.now) c.from.ensures in
@@ -43,6 +42,6 @@ returns-clause-in_state c = λ state at.
     let sent = c.in_ok-send_all.ensures.agenda _ woken in
     in_state_turn faults n t m state c.args.self.now _ c.deref.result.now (turn_out_of c.turn_mote.new.out next) c.requires.mote_exists c.requires.is_whole at
     (c.deref.ensures.value ∙ c.in_ok-take_due_into.ensures.copies state.agenda at.agenda)
-    takes (ap (λ k. slice_set wakes k next) c.from-2.ensures) c.in_ok-next.ensures.stamped c.in_ok-add_lines.ensures.adds_lines
+    c.in_ok-next.ensures.one_takes_turn (ap (λ k. slice_set wakes k next) c.from-2.ensures) c.in_ok-next.ensures.stamped c.in_ok-add_lines.ensures.adds_lines
     (sent_of (λ (r : Radio) (s : List Sent). HoldsItems c.send_all.new.agenda.buckets (base ++ map Packet (all_copies faults r s))) c.medium.ensures.value c.deref-2.ensures.value sent)
     (sent_of (λ (r : Radio) (s : List Sent). map line_model c.send_all.new.log.items ≡ map line_model c.args.self.now.log.items ++ map (packet_with faults r) s) c.medium.ensures.value c.deref-2.ensures.value c.in_ok-send_all.ensures.log)
