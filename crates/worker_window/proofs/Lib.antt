@@ -24,3 +24,4 @@ pub mod TakesEvents
 pub mod TakesIn
 pub mod Traces
 pub mod Workers
+pub mod Common

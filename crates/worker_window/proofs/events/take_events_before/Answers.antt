@@ -1,10 +1,4 @@
-use Rattle.std.proofs.Common.{◌≡◌, ◌∙◌, ◌<◌, ◌++◌, ◌∷◌, [], if◌then◌else◌, refl, sym, subst, arith, is_some, IsSome, map, true, None, set, ap, length}
-use Rattle.std.proofs.lemmas.List.{length-set}
-use Rattle.net_agenda.specs.Buckets.{HoldsItems}
-use Rattle.net_agenda.specs.Items.{copy_at}
-use Rattle.worker_window.specs.Events.{are_different, copies_at, held_copies, is_called, is_one_of}
-use Rattle.worker_window.specs.MoteWindow.{is_rising}
-use Rattle.worker_window.specs.Share.{mote_here}
+use Rattle.worker_window.proofs.Common.{◌≡◌, ◌∙◌, ◌<◌, ◌++◌, ◌∷◌, [], if◌then◌else◌, refl, sym, subst, arith, is_some, IsSome, map, true, None, set, ap, length, length-set, HoldsItems, copy_at, are_different, copies_at, held_copies, is_called, is_one_of, is_rising, mote_here}
 use Rattle.worker_window.proofs.Given.{same_refl, same_still, more_here, else_same, still_there, called_else, called_now, different_then, calls_then, others_then}
 use Rattle.worker_window.proofs.Places.{at_place, some_within}
 use Rattle.worker_window.proofs.Rises.{is_rising_from}

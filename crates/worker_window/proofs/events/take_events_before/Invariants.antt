@@ -1,9 +1,4 @@
-use Rattle.std.proofs.Common.{◌≡◌, ℕ, true, false, List, length}
-use Rattle.window_laws.specs.Agenda.{Item}
-use Rattle.net_agenda.specs.Buckets.{HoldsItems, first_key}
-use Rattle.net_agenda.proofs.Ranks.{turns_left}
-use Rattle.worker_window.specs.Events.{IsSameMote, are_different, copies_at, is_called, is_one_of}
-use Rattle.worker_window.specs.Share.{mote_here}
+use Rattle.worker_window.proofs.Common.{◌≡◌, ℕ, true, false, List, length, Item, HoldsItems, first_key, turns_left, IsSameMote, are_different, copies_at, is_called, is_one_of, mote_here}
 use Rattle.worker_window.proofs.TakesEvents.{Part}
 use Rattle.worker_window.proofs.events.take_events_before.Given as goal
 

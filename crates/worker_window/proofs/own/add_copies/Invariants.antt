@@ -1,5 +1,4 @@
-use Rattle.std.proofs.Common.{◌≡◌, ◌≤◌, ◌+◌, ◌++◌, length, map, take, vec_len, vec_capacity}
-use Rattle.net_agenda.specs.Items.{copy_at}
+use Rattle.worker_window.proofs.Common.{◌≡◌, ◌≤◌, ◌+◌, ◌++◌, length, map, take, vec_len, vec_capacity, copy_at}
 use Rattle.worker_window.proofs.own.add_copies.Given as goal
 
 abbrev pub invariant-loop-arrival : goal.invariant-loop-arrival

@@ -1,6 +1,4 @@
-use Rattle.std.proofs.Common.{◌≡◌, map, take}
-use Rattle.window_laws.specs.Windows.{is_at}
-use Rattle.net_agenda.specs.Buckets.{arrival_of}
+use Rattle.worker_window.proofs.Common.{◌≡◌, map, take, is_at, arrival_of}
 use Rattle.worker_window.proofs.Fronts.{Pass}
 use Rattle.worker_window.proofs.own.take_arrivals.Given as goal
 

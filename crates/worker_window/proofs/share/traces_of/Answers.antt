@@ -1,9 +1,6 @@
-use Rattle.std.proofs.Common.{rules, ◌≡◌, ◌∙◌, ◌++◌, ◌∷◌, [], ap, sym, map, map-id, vec_len, length, Vec, Global}
+use Rattle.worker_window.proofs.Common.{rules, ◌≡◌, ◌∙◌, ◌++◌, ◌∷◌, [], ap, sym, map, map-id, vec_len, length, Vec, Global, map-append, Line, trace_in}
 use Rattle.std.proofs.lemmas.Iterator.Adapters.{YieldsList-from_vec}
 use Rattle.std.proofs.lemmas.Iterator.Consumers.{YieldsList-end}
-use Rattle.std.proofs.lemmas.List.{map-append}
-use Rattle.trace_lines.specs.declared.line.Line.{Line}
-use Rattle.worker_window.specs.Share.{trace_in}
 use Rattle.worker_window.proofs.share.traces_of.Goals as goal
 
 pub loop-mote-preserved : goal.loop-mote-preserved

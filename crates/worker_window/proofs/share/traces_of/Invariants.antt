@@ -1,6 +1,4 @@
-use Rattle.std.proofs.Common.{◌≡◌, map, Vec, Global}
-use Rattle.trace_lines.specs.declared.line.Line.{Line}
-use Rattle.worker_window.specs.Share.{trace_in}
+use Rattle.worker_window.proofs.Common.{◌≡◌, map, Vec, Global, Line, trace_in}
 use Rattle.worker_window.proofs.share.traces_of.Given as goal
 
 abbrev pub invariant-loop-mote : goal.invariant-loop-mote

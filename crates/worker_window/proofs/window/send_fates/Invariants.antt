@@ -1,6 +1,4 @@
-use Rattle.std.proofs.Common.{◌≡◌, ◌++◌, take}
-use Rattle.net_agenda.specs.Changes.{AddsItems}
-use Rattle.worker_window.specs.Sending.{outgoing_copies, own_items}
+use Rattle.worker_window.proofs.Common.{◌≡◌, ◌++◌, take, AddsItems, outgoing_copies, own_items}
 use Rattle.worker_window.proofs.window.send_fates.Given as goal
 
 abbrev pub invariant-loop-fate : goal.invariant-loop-fate

@@ -1,5 +1,4 @@
-use Rattle.std.proofs.Common.{sym}
-use Rattle.program_tree.specs.Program.{tree_of}
+use Rattle.worker_window.proofs.Common.{sym, tree_of}
 use Rattle.worker_window.proofs.Workers.{end_before, goes_after, over_now}
 use Rattle.worker_window.proofs.worker.poll_mote.Goals as goal
 

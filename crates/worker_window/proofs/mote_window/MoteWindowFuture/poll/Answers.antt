@@ -1,6 +1,4 @@
-use Rattle.std.proofs.Common.{◌∙◌, ap, sym}
-use Rattle.program_tree.specs.Program.{tree_of}
-use Rattle.worker_window.specs.Out.{out_of}
+use Rattle.worker_window.proofs.Common.{◌∙◌, ap, sym, tree_of, out_of}
 use Rattle.worker_window.proofs.Polls.{at_rest, before_turn, finishes}
 use Rattle.worker_window.proofs.mote_window.MoteWindowFuture.poll.Goals as goal
 

@@ -1,4 +1,4 @@
-use Rattle.std.proofs.Common.{arith}
+use Rattle.worker_window.proofs.Common.{arith}
 use Rattle.worker_window.proofs.Orders.{is_rising-drop, rest_of}
 use Rattle.worker_window.proofs.Takes.{over_after}
 use Rattle.worker_window.proofs.own.OwnWindow.next_moment.Goals as goal

@@ -1,7 +1,4 @@
-use Rattle.std.proofs.Common.{◌∙◌}
-use Rattle.window_laws.specs.Agenda.{packets}
-use Rattle.net_agenda.specs.NetSystem.{tree_at}
-use Rattle.worker_window.specs.Share.{IsBetweenWindows, mote_here}
+use Rattle.worker_window.proofs.Common.{◌∙◌, packets, tree_at, IsBetweenWindows, mote_here}
 use Rattle.worker_window.proofs.Places.{some_with, some_within}
 use Rattle.worker_window.proofs.Traces.{all_kept, rest_lines, trace_at}
 use Rattle.worker_window.proofs.share.Share.end.Goals as goal

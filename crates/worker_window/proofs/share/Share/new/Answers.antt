@@ -1,12 +1,5 @@
-use Rattle.std.proofs.Common.{◌≡◌, ◌∙◌, ap, arith, subst, length, length-append, map, None, Option}
-use Rattle.std.specs.List.{filter}
-use Rattle.worker_window.specs.declared.own.OwnWindow.{OwnWindow}
-use Rattle.mote_net.specs.Meaning.{net_of}
-use Rattle.window_laws.specs.Agenda.{Wake, up_to}
-use Rattle.net_agenda.specs.Buckets.{HoldsItems}
+use Rattle.worker_window.proofs.Common.{◌≡◌, ◌∙◌, ap, arith, subst, length, length-append, map, None, Option, filter, OwnWindow, net_of, Wake, up_to, HoldsItems, is_own, IfOwn, IsBeforeFirstTurn}
 use Rattle.net_agenda.proofs.Boots.{pushed}
-use Rattle.copy_exchange.specs.Crossed.{is_own}
-use Rattle.worker_window.specs.Share.{IfOwn, IsBeforeFirstTurn}
 use Rattle.worker_window.proofs.Begins.{wakes_more, begins}
 use Rattle.worker_window.proofs.share.Share.new.Goals as goal
 

@@ -1,12 +1,4 @@
-use Rattle.std.proofs.Common.{◌≡◌, ◌<◌, ℕ, [], length, map, Option}
-use Rattle.std.specs.List.{filter}
-use Rattle.std.specs.Prelude.{slice_index_or}
-use Rattle.mote_net.specs.Meaning.{net_of}
-use Rattle.window_laws.specs.Agenda.{Wake, up_to}
-use Rattle.net_agenda.specs.Buckets.{HoldsItems}
-use Rattle.copy_exchange.specs.Crossed.{is_own}
-use Rattle.worker_window.specs.Share.{IfOwn, IsBeforeFirstTurn}
-use Rattle.worker_window.specs.declared.own.OwnWindow.{OwnWindow}
+use Rattle.worker_window.proofs.Common.{◌≡◌, ◌<◌, ℕ, [], length, map, Option, filter, slice_index_or, net_of, Wake, up_to, HoldsItems, is_own, IfOwn, IsBeforeFirstTurn, OwnWindow}
 use Rattle.worker_window.proofs.share.Share.new.Given as goal
 
 abbrev pub invariant-loop-number : goal.invariant-loop-number

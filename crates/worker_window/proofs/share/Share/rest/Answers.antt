@@ -1,14 +1,4 @@
-use Rattle.std.proofs.Common.{◌≡◌, ◌∙◌, ◌++◌, ◌<◌, ◌≤◌, ◌^◌, length, List, map, None, Some, ap, refl, subst, sym, slice_set}
-use Rattle.std.specs.List.{filter, flat_map, AllByRecursion}
-use Rattle.radio_packet.specs.declared.sent.Sent.{Sent}
-use Rattle.radio_medium.specs.Medium.{copies}
-use Rattle.window_laws.specs.Agenda.{Packet, wake_items}
-use Rattle.net_agenda.specs.Buckets.{HoldsItems}
-use Rattle.net_agenda.specs.Changes.{without_wakes}
-use Rattle.copy_exchange.specs.Crossed.{is_own, is_for_others}
-use Rattle.worker_window.specs.Log.{packets_in}
-use Rattle.worker_window.specs.Resting.{HasSent}
-use Rattle.worker_window.specs.Share.{mote_here}
+use Rattle.worker_window.proofs.Common.{◌≡◌, ◌∙◌, ◌++◌, ◌<◌, ◌≤◌, ◌^◌, length, List, map, None, Some, ap, refl, subst, sym, slice_set, filter, flat_map, AllByRecursion, Sent, copies, Packet, wake_items, HoldsItems, without_wakes, is_own, is_for_others, packets_in, HasSent, mote_here}
 use Rattle.worker_window.proofs.Places.{at_place, some_then, some_with, some_within, with_some}
 use Rattle.worker_window.proofs.share.Share.rest.Goals as goal
 

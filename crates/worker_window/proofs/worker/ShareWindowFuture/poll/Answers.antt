@@ -1,4 +1,4 @@
-use Rattle.mote_net.specs.Meaning.{net_of}
+use Rattle.worker_window.proofs.Common.{net_of}
 use Rattle.worker_window.proofs.Workers.{answers_less}
 use Rattle.worker_window.proofs.worker.ShareWindowFuture.poll.Goals as goal
 
