@@ -1,5 +1,5 @@
 -- The items that the takers have gathered after a window.
-use Rattle.copy_exchange.proofs.Common.{◌≡◌, ℕ, zero, suc, ◌+◌, ◌<◌, Bool, List, [], ◌∷◌, ◌++◌, length, map, get_or, slice_get, Option, Some, None, Vec, refl, sym, ap, ◌∙◌, subst, arith, Each, AllZip, cons_option, filter_map, range_with_len, length-map, filter_map-append, length-range_with_len, get_or_from_slice_get, slice_get-get_or, Global, TakerState, SenderState, Packets, is_gathered, InboxId, TakerView, SenderView, after_gather, AllGathered, PacketsLeft, Endpoint, copies_gathered, IsOrderly, IsEndpoint, IsOnInboxes, IsCollected, DeliversOwn, Stays, AreOpen, Returns, AllReturn, GathersDelivered, sender_to, senders_to, identity_of, HasNoMarks, IsSettled, Settled, AreTakersOf, GathersRow, GathersBack, AgreesWithSender, gather_into, gather_senders, at_place}
+use Rattle.copy_exchange.proofs.Common.{[], ◌≡◌, ℕ, zero, suc, ◌+◌, ◌<◌, Bool, List, ◌∷◌, ◌++◌, length, map, get_or, slice_get, Option, Some, None, Vec, refl, sym, ap, ◌∙◌, subst, arith, Each, AllZip, cons_option, filter_map, range_with_len, length-map, filter_map-append, length-range_with_len, get_or_from_slice_get, slice_get-get_or, Global, TakerState, SenderState, Packets, is_gathered, InboxId, TakerView, SenderView, after_gather, AllGathered, PacketsLeft, Endpoint, copies_gathered, IsOrderly, IsEndpoint, IsOnInboxes, IsCollected, DeliversOwn, Stays, AreOpen, Returns, AllReturn, GathersDelivered, sender_to, senders_to, identity_of, HasNoMarks, IsSettled, Settled, AreTakersOf, GathersRow, GathersBack, AgreesWithSender, gather_into, gather_senders, at_place}
 use Rattle.copy_exchange.proofs.Gathers.{gather_is, with_joined, numbers_of, joined_copies, all_gathered, orderly_then}
 use Rattle.copy_exchange.proofs.Gathers.{packets_then, OneOf}
 use Rattle.copy_exchange.proofs.Lists.{each_from, each_join, each_map}

@@ -1,5 +1,5 @@
 -- All senders of all endpoints are gathered, row by row.
-use Rattle.copy_exchange.proofs.Common.{◌≡◌, ℕ, ◌<◌, ◌==◌, Bool, true, false, List, [], ◌∷◌, length, map, get_or, slice_get, Option, Some, refl, sym, ap, ◌∙◌, subst, arith, option_map, Each, cons_option, range_with_len, length-map, length-range_with_len, get_or_from_slice_get, slice_get-get_or, slice_get-map, slice_get_within, InboxId, TakerView, SenderView, Endpoint, IsOnInboxes, IsSenderOn, sender_to, senders_to, AreTakersOf, AreSendersOn, GathersBack, AgreesWithSender, gather_senders}
+use Rattle.copy_exchange.proofs.Common.{[], ◌≡◌, ℕ, ◌<◌, ◌==◌, Bool, true, false, List, ◌∷◌, length, map, get_or, slice_get, Option, Some, refl, sym, ap, ◌∙◌, subst, arith, option_map, Each, cons_option, range_with_len, length-map, length-range_with_len, get_or_from_slice_get, slice_get-get_or, slice_get-map, slice_get_within, InboxId, TakerView, SenderView, Endpoint, IsOnInboxes, IsSenderOn, sender_to, senders_to, AreTakersOf, AreSendersOn, GathersBack, AgreesWithSender, gather_senders}
 use Rattle.copy_exchange.proofs.AfterWindow.{Row, GathersRows, row_senders, pick}
 use Rattle.copy_exchange.proofs.Lists.{each_at}
 use Rattle.copy_exchange.proofs.Owns.{workers_of}

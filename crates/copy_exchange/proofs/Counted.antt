@@ -1,5 +1,5 @@
 -- The number of copies that were gathered.
-use Rattle.copy_exchange.proofs.Common.{◌≡◌, ◌≢◌, ℕ, ◌+◌, Bool, true, false, cond, eqb, List, [], ◌∷◌, length, filter, drop, refl, ap, ◌∙◌, subst, ⊎_elim, arith, length-append, Each, cons_option, true_from_ne_false, eqb_tells, drop-append_seam, RadioCopy, Carried, Packet, Mark, Item, Gathered, TakerState, copies_of, carried_copy, carries_packet, Packets, part, is_gathered, Apart, TookFronts, known_of, untaken_of, PacketsLeft, part-here, part-else, part-not_nil, part-nil_right, copies_gathered, copies_in, IsOrderly}
+use Rattle.copy_exchange.proofs.Common.{[], ◌≡◌, ◌≢◌, ℕ, ◌+◌, Bool, true, false, cond, eqb, List, ◌∷◌, length, filter, drop, refl, ap, ◌∙◌, subst, ⊎_elim, arith, length-append, Each, cons_option, true_from_ne_false, eqb_tells, drop-append_seam, RadioCopy, Carried, Packet, Mark, Item, Gathered, TakerState, copies_of, carried_copy, carries_packet, Packets, part, is_gathered, Apart, TookFronts, known_of, untaken_of, PacketsLeft, part-here, part-else, part-not_nil, part-nil_right, copies_gathered, copies_in, IsOrderly}
 use Rattle.std.proofs.lemmas.List.Sums.{sum_by-cons}
 use Rattle.copy_inbox.proofs.Counts.{tally, front_counts, tally-nil}
 use Rattle.copy_exchange.proofs.Lists.{either}

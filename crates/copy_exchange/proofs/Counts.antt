@@ -1,5 +1,5 @@
 -- The numbers of copies, and their order, by the worker of their receiver and by their sender.
-use Rattle.copy_exchange.proofs.Common.{◌≡◌, ◌⊎◌, ℕ, zero, suc, ◌+◌, ◌<◌, ◌≤◌, true, false, cond, eqb, List, [], ◌∷◌, length, refl, ap, ap₂, ◌∙◌, arith, inl, inr, Some, AllByRecursion, option_map_or, cases_Bool, cases_order, RadioCopy, is_own, is_to}
+use Rattle.copy_exchange.proofs.Common.{[], ◌≡◌, ◌⊎◌, ℕ, zero, suc, ◌+◌, ◌<◌, ◌≤◌, true, false, cond, eqb, List, ◌∷◌, length, refl, ap, ap₂, ◌∙◌, arith, inl, inr, Some, AllByRecursion, option_map_or, cases_Bool, cases_order, RadioCopy, is_own, is_to}
 use Rattle.std.specs.List.{filter, slice_get}
 use Rattle.std.proofs.lemmas.Bool.{eq-eqb, ne_eqb}
 

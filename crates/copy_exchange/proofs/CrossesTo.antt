@@ -1,5 +1,5 @@
 -- The copies that each worker gathered are those that crossed to it.
-use Rattle.copy_exchange.proofs.Common.{◌≡◌, ◌⊎◌, ℕ, Bool, true, false, cond, not, ◌&&◌, eqb, List, [], ◌∷◌, ◌++◌, refl, sym, ap, ◌∙◌, subst, inl, inr, append_assoc, IsPermutation, flat_map, AllByRecursion, cases_Bool, filter-append, Sent, RadioCopy, System, RunsForward, LoneMote, copies_by, is_from_sender, is_sent_by, IsJoined, as_log, filter_filter, filter_every, filter_none, filter_never, every_weaker, is_own, crossed}
+use Rattle.copy_exchange.proofs.Common.{[], ◌≡◌, ◌⊎◌, ℕ, Bool, true, false, cond, not, ◌&&◌, eqb, List, ◌∷◌, ◌++◌, refl, sym, ap, ◌∙◌, subst, inl, inr, append_assoc, IsPermutation, flat_map, AllByRecursion, cases_Bool, filter-append, Sent, RadioCopy, System, RunsForward, LoneMote, copies_by, is_from_sender, is_sent_by, IsJoined, as_log, filter_filter, filter_every, filter_none, filter_never, every_weaker, is_own, crossed}
 use Rattle.std.specs.List.{filter}
 use Rattle.std.proofs.lemmas.List.Sorted.{IsPermutation-refl, IsPermutation-sym, IsPermutation-trans, IsPermutation-cons, IsPermutation-middle, IsPermutation-append_left, IsPermutation-append_right, IsPermutation-append_comm}
 use Rattle.window_laws.specs.Order.{is_before, insert_by, sorted_by}

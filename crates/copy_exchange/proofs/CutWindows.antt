@@ -1,5 +1,5 @@
 -- The windows so far, and the copies that are on their way after them.
-use Rattle.copy_exchange.proofs.Common.{◌≡◌, ℕ, suc, ◌+◌, ◌-◌, ◌<◌, ◌≤◌, true, cond, ltb, List, [], ◌∷◌, map, length, refl, sym, ap, ◌∙◌, subst, arith, inl, inr, flat_map, AllByRecursion, cases_Bool, ltb-true, ltb-false, not-true, RadioCopy, Sent, System, RunsForward, up_to, LoneMote, first_mote, Windows, Last, Window, RunsAlone, NoneBefore, copies_by, is_from_sender, IsJoined, as_log, filter_filter, every_weaker, every_flat_map, every_filter}
+use Rattle.copy_exchange.proofs.Common.{[], ◌≡◌, ℕ, suc, ◌+◌, ◌-◌, ◌<◌, ◌≤◌, true, cond, ltb, List, ◌∷◌, map, length, refl, sym, ap, ◌∙◌, subst, arith, inl, inr, flat_map, AllByRecursion, cases_Bool, ltb-true, ltb-false, not-true, RadioCopy, Sent, System, RunsForward, up_to, LoneMote, first_mote, Windows, Last, Window, RunsAlone, NoneBefore, copies_by, is_from_sender, IsJoined, as_log, filter_filter, every_weaker, every_flat_map, every_filter}
 use Rattle.std.specs.List.{filter}
 use Rattle.window_laws.specs.Pending.{comes_from, IsPending}
 use Rattle.window_laws.specs.Report.{IsReport}

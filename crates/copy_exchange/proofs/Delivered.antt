@@ -1,5 +1,5 @@
 -- One more copy is delivered.
-use Rattle.copy_exchange.proofs.Common.{◌≡◌, ◌≢◌, ℕ, zero, suc, ◌<◌, ◌==◌, Bool, true, false, cond, eqb, List, [], ◌∷◌, ◌++◌, length, map, filter, get_or, slice_get, slice_index, Option, Some, None, refl, sym, ap, ◌∙◌, subst, ⊎_elim, arith, append-nil, append_assoc, length-set, eq-eqb, ne_eqb, map-set_same, eqb_tells, get_or-set_same, get_or-set_other, map-append, filter-append, slice_get-get_or, IsSomeAnd, RadioCopy, Carried, Packet, SenderState, InboxId, TakerView, SenderView, after_pushing, Endpoint, copies_in, IsOrderly, is_to, IsEndpoint, IsOnInboxes, IsSenderOn, Leaves, Stays, Delivers, sender_to, delivered, pushed_by, pushed_list, pushed_to, identity_of}
+use Rattle.copy_exchange.proofs.Common.{[], ◌≡◌, ◌≢◌, ℕ, zero, suc, ◌<◌, ◌==◌, Bool, true, false, cond, eqb, List, ◌∷◌, ◌++◌, length, map, filter, get_or, slice_get, slice_index, Option, Some, None, refl, sym, ap, ◌∙◌, subst, ⊎_elim, arith, append-nil, append_assoc, length-set, eq-eqb, ne_eqb, map-set_same, eqb_tells, get_or-set_same, get_or-set_other, map-append, filter-append, slice_get-get_or, IsSomeAnd, RadioCopy, Carried, Packet, SenderState, InboxId, TakerView, SenderView, after_pushing, Endpoint, copies_in, IsOrderly, is_to, IsEndpoint, IsOnInboxes, IsSenderOn, Leaves, Stays, Delivers, sender_to, delivered, pushed_by, pushed_list, pushed_to, identity_of}
 use Rattle.std.specs.Vec.{with_item}
 use Rattle.copy_exchange.proofs.Owners.{own_is}
 use Rattle.copy_exchange.proofs.Parts.{copies_in-append}

@@ -1,5 +1,5 @@
 -- All open senders of an inbox are gathered, one after another.
-use Rattle.copy_exchange.proofs.Common.{◌≡◌, ◌≢◌, ◌⊎◌, ℕ, zero, suc, ◌+◌, ◌<◌, ◌≤◌, true, false, eqb, List, [], ◌∷◌, ◌++◌, length, map, drop, refl, sym, ap, ◌∙◌, subst, inl, inr, ⊎_elim, arith, append_assoc, append-nil, eq-eqb, ne_eqb, Each, flat_map, range_with_len, cases_lt, eqb_tells, flat_map-cons, drop-append_seam, RadioCopy, Carried, Item, Gathered, TakerState, copies_of, Packets, part, is_gathered, untaken_of, Apart, TookFronts, Whole, make_taker_state, make_gathered, TakerView, SenderView, after_gather, AllGathered, PacketsLeft, part-append, SameOfEach, copies_in, copies_gathered, IsRest, IsOrderly, AreOpen, gather_senders}
+use Rattle.copy_exchange.proofs.Common.{[], ◌≡◌, ◌≢◌, ◌⊎◌, ℕ, zero, suc, ◌+◌, ◌<◌, ◌≤◌, true, false, eqb, List, ◌∷◌, ◌++◌, length, map, drop, refl, sym, ap, ◌∙◌, subst, inl, inr, ⊎_elim, arith, append_assoc, append-nil, eq-eqb, ne_eqb, Each, flat_map, range_with_len, cases_lt, eqb_tells, flat_map-cons, drop-append_seam, RadioCopy, Carried, Item, Gathered, TakerState, copies_of, Packets, part, is_gathered, untaken_of, Apart, TookFronts, Whole, make_taker_state, make_gathered, TakerView, SenderView, after_gather, AllGathered, PacketsLeft, part-append, SameOfEach, copies_in, copies_gathered, IsRest, IsOrderly, AreOpen, gather_senders}
 use Rattle.copy_exchange.proofs.Lists.{each_map, either, heads}
 use Rattle.copy_exchange.proofs.Parts.{from, from-append, copies-append, OnlyIn, of_one_sender, nothing_more}
 

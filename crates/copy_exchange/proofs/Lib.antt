@@ -23,3 +23,4 @@ pub mod Cuts
 pub mod Owners
 pub mod CutWindows
 pub mod Common
+pub mod Expected

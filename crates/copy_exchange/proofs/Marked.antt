@@ -1,5 +1,5 @@
 -- The mark of a window is pushed, worker by worker.
-use Rattle.copy_exchange.proofs.Common.{◌≡◌, ◌≢◌, ℕ, ◌+◌, ◌<◌, ◌≤◌, ◌==◌, Bool, true, false, eqb, List, [], ◌∷◌, ◌++◌, length, get_or, slice_get, Option, Some, None, IfSome, refl, sym, ap, ◌∙◌, subst, ⊎_elim, arith, map-set_same, eqb_tells, get_or-set_same, get_or-set_other, length-map, slice_get-get_or, Mark, SenderState, InboxId, SenderView, after_pushing, Endpoint, IsOnInboxes, IsSenderOn, HasMarks, Stays, PushesMarks, sender_to, pushed_list, pushed_to, identity_of, MarksOne, pushed_with_mark}
+use Rattle.copy_exchange.proofs.Common.{[], ◌≡◌, ◌≢◌, ℕ, ◌+◌, ◌<◌, ◌≤◌, ◌==◌, Bool, true, false, eqb, List, ◌∷◌, ◌++◌, length, get_or, slice_get, Option, Some, None, IfSome, refl, sym, ap, ◌∙◌, subst, ⊎_elim, arith, map-set_same, eqb_tells, get_or-set_same, get_or-set_other, length-map, slice_get-get_or, Mark, SenderState, InboxId, SenderView, after_pushing, Endpoint, IsOnInboxes, IsSenderOn, HasMarks, Stays, PushesMarks, sender_to, pushed_list, pushed_to, identity_of, MarksOne, pushed_with_mark}
 use Rattle.copy_exchange.proofs.Delivered.{same_at, stays_on, with_sender}
 use Rattle.copy_exchange.proofs.AfterWindow.{same_identity}
 

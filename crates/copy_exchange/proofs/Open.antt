@@ -1,5 +1,5 @@
 -- The senders on an inbox, if endpoints are made once for the whole run.
-use Rattle.copy_exchange.proofs.Common.{◌≡◌, ◌≢◌, ℕ, zero, suc, ◌+◌, ◌<◌, ◌≤◌, ◌==◌, Bool, true, false, eqb, List, [], ◌∷◌, length, map, get_or, slice_get, Option, Some, None, refl, sym, ap, ◌∙◌, subst, ⊎_elim, arith, eq-eqb, ne_eqb, option_map, Each, AllZip, cons_option, filter_map, range_with_len, option_map_or, cases_lt, eqb_tells, length-map, get_or-range_with_len, length-range_with_len, get_or_from_slice_get, slice_get-get_or, slice_get-map, slice_get_within, TakerState, is_gathered, InboxId, SenderView, Endpoint, IsEndpoint, IsOnInboxes, IsSenderOn, Stays, AreOpen, Together, sender_to, senders_to}
+use Rattle.copy_exchange.proofs.Common.{[], ◌≡◌, ◌≢◌, ℕ, zero, suc, ◌+◌, ◌<◌, ◌≤◌, ◌==◌, Bool, true, false, eqb, List, ◌∷◌, length, map, get_or, slice_get, Option, Some, None, refl, sym, ap, ◌∙◌, subst, ⊎_elim, arith, eq-eqb, ne_eqb, option_map, Each, AllZip, cons_option, filter_map, range_with_len, option_map_or, cases_lt, eqb_tells, length-map, get_or-range_with_len, length-range_with_len, get_or_from_slice_get, slice_get-get_or, slice_get-map, slice_get_within, TakerState, is_gathered, InboxId, SenderView, Endpoint, IsEndpoint, IsOnInboxes, IsSenderOn, Stays, AreOpen, Together, sender_to, senders_to}
 use Rattle.copy_exchange.proofs.Gathers.{numbers_of}
 use Rattle.copy_exchange.proofs.AfterWindow.{same_workers, each_staying, open_staying}
 use Rattle.copy_exchange.proofs.Lists.{each_at, each_map, heads}

@@ -1,5 +1,5 @@
 -- Each mote's copies come from the endpoint of its own worker.
-use Rattle.copy_exchange.proofs.Common.{◌≡◌, ◌≢◌, ◌⊎◌, ℕ, ◌+◌, ◌<◌, ◌==◌, Bool, true, false, List, [], ◌∷◌, ◌++◌, length, map, Option, Some, None, refl, sym, ap, ◌∙◌, inl, inr, arith, ne_eqb, eqb, ⊎_elim, Each, cons_option, flat_map, range_with_len, true≢false, eqb_tells, flat_map-cons, SenderView, Endpoint, DeliversOwn, sender_to, senders_to, delivered, delivered_to, pushed_by}
+use Rattle.copy_exchange.proofs.Common.{[], ◌≡◌, ◌≢◌, ◌⊎◌, ℕ, ◌+◌, ◌<◌, ◌==◌, Bool, true, false, List, ◌∷◌, ◌++◌, length, map, Option, Some, None, refl, sym, ap, ◌∙◌, inl, inr, arith, ne_eqb, eqb, ⊎_elim, Each, cons_option, flat_map, range_with_len, true≢false, eqb_tells, flat_map-cons, SenderView, Endpoint, DeliversOwn, sender_to, senders_to, delivered, delivered_to, pushed_by}
 use Rattle.copy_exchange.proofs.Parts.{from}
 use Rattle.copy_exchange.proofs.Gathers.{OneOf, copies_by}
 use Rattle.copy_exchange.proofs.Lists.{heads}

@@ -1,5 +1,5 @@
 -- The copies of one mote among the items of several senders.
-use Rattle.copy_exchange.proofs.Common.{◌≡◌, ◌≢◌, ℕ, Bool, true, false, cond, eqb, Option, Some, None, List, [], ◌∷◌, ◌++◌, filter, refl, sym, ap, ◌∙◌, ⊎_elim, eqb_tells, cons_option, filter-append, filter_map-append, RadioCopy, Carried, Item, copies_of, carried_copy, part, part-here, part-else, is_from_sender, copies_in}
+use Rattle.copy_exchange.proofs.Common.{[], ◌≡◌, ◌≢◌, ℕ, Bool, true, false, cond, eqb, Option, Some, None, List, ◌∷◌, ◌++◌, filter, refl, sym, ap, ◌∙◌, ⊎_elim, eqb_tells, cons_option, filter-append, filter_map-append, RadioCopy, Carried, Item, copies_of, carried_copy, part, part-here, part-else, is_from_sender, copies_in, subst, Each}
 
 -- the copies of mote s
 abbrev pub from : ℕ → List RadioCopy → List RadioCopy
@@ -57,6 +57,27 @@ of_one_sender s j (x ∷ xs) h =
     let none : from s (cons_option p (copies_in (part x.sender xs))) ≡ [] = (ap (λ l. from s (copies_in l)) (sym (part-here x.sender x xs refl)) ∙ h x.sender t.1) in
     option_none s p (copies_in (part x.sender xs)) (copies_of xs) none ∙ (r ∙ ap (λ l. from s (copies_in l)) (sym (part-else j x xs t.1))))
     (eqb_tells x.sender j)
+
+-- ---- a property of each copy
+module _ (P : RadioCopy → Type 0) where
+  first_each : (o : Option RadioCopy) (xs ys : List RadioCopy) → Each P (cons_option o xs) → Each P ys → Each P (cons_option o ys)
+  first_each None xs ys h k = k
+  first_each (Some c) xs ys h k = (h.0, k)
+
+  tail_each : (o : Option RadioCopy) (xs : List RadioCopy) → Each P (cons_option o xs) → Each P xs
+  tail_each None xs h = h
+  tail_each (Some c) xs h = h.1
+
+  -- each sender's copies have it, so all have it
+  pub each_part : (items : List Item) → ((s : ℕ) → Each P (copies_in (part s items))) → Each P (copies_of items)
+  each_part [] h = tt
+  each_part (x ∷ xs) h =
+      let Q : List Carried → Type 0 = λ l. Each P (copies_in l) in
+      first_each (carried_copy x.what) (copies_in (part x.sender xs)) (copies_of xs) (subst Q (part-here x.sender x xs refl) (h x.sender))
+      (each_part xs (λ s. ⊎_elim
+      (λ (t : (eqb x.sender s ≡ true) × (x.sender ≡ s)). tail_each (carried_copy x.what) (copies_in (part s xs)) (subst Q (part-here s x xs t.1) (h s)))
+      (λ (t : (eqb x.sender s ≡ false) × (x.sender ≢ s)). subst Q (part-else s x xs t.1) (h s))
+      (eqb_tells x.sender s)))
 
 -- ---- if a prefix is the whole list, nothing follows it
 pub nothing_more : (xs ys : List Carried) → xs ++ ys ≡ xs → ys ≡ []

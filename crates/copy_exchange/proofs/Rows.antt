@@ -1,5 +1,5 @@
 -- One worker's senders, inbox by inbox.
-use Rattle.copy_exchange.proofs.Common.{◌≡◌, ◌≢◌, ℕ, zero, suc, ◌+◌, ◌<◌, ◌≤◌, ◌==◌, Bool, true, false, eqb, List, [], ◌∷◌, length, set, get_or, drop, add-one, slice_index_or, Option, Some, None, IfSome, refl, sym, ap, ◌∙◌, subst, ⊎_elim, arith, length-set, cases_lt, eqb_tells, get_or-set_same, get_or-set_other, InboxId, TakerView, SenderView, AreTakersOf, AreSendersOn, GathersRow, AgreesWithSender, Opens, gather_into, at_place, opened_taker, opened_sender}
+use Rattle.copy_exchange.proofs.Common.{[], ◌≡◌, ◌≢◌, ℕ, zero, suc, ◌+◌, ◌<◌, ◌≤◌, ◌==◌, Bool, true, false, eqb, List, ◌∷◌, length, set, get_or, drop, add-one, slice_index_or, Option, Some, None, IfSome, refl, sym, ap, ◌∙◌, subst, ⊎_elim, arith, length-set, cases_lt, eqb_tells, get_or-set_same, get_or-set_other, InboxId, TakerView, SenderView, AreTakersOf, AreSendersOn, GathersRow, AgreesWithSender, Opens, gather_into, at_place, opened_taker, opened_sender}
 use Rattle.copy_exchange.proofs.Lists.{same_read}
 
 -- the senders at the first k places are gathered

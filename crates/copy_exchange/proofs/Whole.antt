@@ -1,5 +1,5 @@
 -- A prefix with a mark of each window is the list of all items pushed.
-use Rattle.copy_exchange.proofs.Common.{◌≡◌, ℕ, zero, suc, ◌+◌, Bool, true, false, ◌&&◌, List, [], ◌∷◌, ◌++◌, map, refl, sym, ap, ◌∙◌, arith, append_assoc, append-nil, and_parts, false≢true, RadioCopy, Carried, Packet, Mark, marks_in, pushes, AllIsTaken}
+use Rattle.copy_exchange.proofs.Common.{[], ◌≡◌, ℕ, zero, suc, ◌+◌, Bool, true, false, ◌&&◌, List, ◌∷◌, ◌++◌, map, refl, sym, ap, ◌∙◌, arith, append_assoc, append-nil, and_parts, false≢true, RadioCopy, Carried, Packet, Mark, marks_in, pushes, AllIsTaken}
 
 pub marks_append : (xs ys : List Carried) → marks_in (xs ++ ys) ≡ marks_in xs + marks_in ys
 marks_append [] ys = omega arith

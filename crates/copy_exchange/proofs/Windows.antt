@@ -1,5 +1,5 @@
 -- The endpoints and the takers in a window, and in the next one.
-use Rattle.copy_exchange.proofs.Common.{◌≡◌, ℕ, ◌==◌, Bool, true, false, cond, List, [], ◌∷◌, ◌++◌, filter, refl, sym, ap, ◌∙◌, subst, arith, RadioCopy, Item, TakerState, copies_of, part, Whole, make_taker_state, InboxId, TakerView, PacketsLeft, part-not_nil, Endpoint, is_from_sender, IsOrderly, is_to, IsEndpoint, Collects, Delivers, StartsAs, Returns, IsFresh, IsSettled}
+use Rattle.copy_exchange.proofs.Common.{[], ◌≡◌, ℕ, ◌==◌, Bool, true, false, cond, List, ◌∷◌, ◌++◌, filter, refl, sym, ap, ◌∙◌, subst, arith, RadioCopy, Item, TakerState, copies_of, part, Whole, make_taker_state, InboxId, TakerView, PacketsLeft, part-not_nil, Endpoint, is_from_sender, IsOrderly, is_to, IsEndpoint, Collects, Delivers, StartsAs, Returns, IsFresh, IsSettled}
 use Rattle.copy_exchange.proofs.Delivered.{stays_on}
 use Rattle.copy_exchange.proofs.Parts.{from}
 

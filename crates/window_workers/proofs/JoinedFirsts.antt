@@ -1,12 +1,5 @@
 -- The earliest moment of arrival among some copies.
-use Rattle.std.proofs.Common.{◌≡◌, ℕ, suc, ◌+◌, ◌<◌, ◌≤◌, get_or, List, [], ◌∷◌, ◌++◌, length, take, ap, ◌∙◌, arith, Option, Some}
-use Rattle.std.proofs.Math.Seq.{take-length, take-suc}
-use Rattle.std.specs.List.{AllByRecursion}
-use Rattle.radio_packet.specs.declared.copy.RadioCopy.{RadioCopy}
-use Rattle.window_laws.proofs.Lists.{every_append, every_weaker}
-use Rattle.window_workers.specs.JoinedWorker.{IsFirstOf}
-use Rattle.window_workers.specs.WorkerGroup.{IsNotBefore}
-use Rattle.window_laws.specs.Windows.{NoneBefore}
+use Rattle.window_workers.proofs.Common.{◌≡◌, ℕ, suc, ◌+◌, ◌<◌, ◌≤◌, get_or, List, [], ◌∷◌, ◌++◌, length, take, ap, ◌∙◌, arith, Option, Some, take-length, take-suc, AllByRecursion, RadioCopy, every_append, every_weaker, IsFirstOf, IsNotBefore, NoneBefore}
 
 nothing_before : (xs : List RadioCopy) (first result : Option ℕ) → ((copy : RadioCopy) → IsNotBefore first copy → IsNotBefore result copy) → AllByRecursion (IsNotBefore first) xs → AllByRecursion (IsNotBefore result) xs
 nothing_before xs first result f h = every_weaker _ _ f xs h

@@ -1,13 +1,5 @@
 -- The workers stay in their state until the next window begins, and no window is longer than the lookahead.
-use Rattle.std.proofs.Common.{ℕ, ◌≡◌, ◌+◌, ◌≤◌, List, Option, Some, None, sym, subst, arith}
-use Rattle.std.proofs.Math.Nat.{le-min, min-le_left}
-use Rattle.mote_net.specs.Net.{NetModel}
-use Rattle.window_laws.specs.Forward.{RunsForward}
-use Rattle.window_laws.specs.Windows.{NoneBefore}
-use Rattle.net_agenda.specs.NetSystem.{system_of}
-use Rattle.window_workers.specs.declared.group.WorkerGroup.{WorkerGroup}
-use Rattle.window_workers.specs.WorkerGroup.{WorkersAreAt}
-use Rattle.window_workers.specs.JoinedRun.{BeginsAt, start_of_window}
+use Rattle.window_workers.proofs.Common.{ℕ, ◌≡◌, ◌+◌, ◌≤◌, List, Option, Some, None, sym, subst, arith, le-min, min-le_left, NetModel, RunsForward, NoneBefore, system_of, WorkerGroup, WorkersAreAt, BeginsAt, start_of_window}
 use Rattle.window_workers.proofs.JoinedIsInState.{comes_no_sooner, in_state}
 
 no_sooner : (reached end : ℕ) (next : Option ℕ) → NoneBefore reached next → reached ≤ end + 1 → reached ≤ start_of_window end next

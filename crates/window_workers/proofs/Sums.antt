@@ -1,8 +1,5 @@
 -- Sums over the workers.
-use Rattle.std.proofs.Common.{◌≡◌, ℕ, zero, suc, ◌+◌, List, [], ◌∷◌, length, arith, refl, Some}
-use Rattle.std.specs.List.{slice_get, sum_by}
-use Rattle.std.proofs.lemmas.List.Sums.{sum_by-cons}
-use Rattle.copy_exchange.proofs.Counts.{total}
+use Rattle.window_workers.proofs.Common.{◌≡◌, ℕ, zero, suc, ◌+◌, List, [], ◌∷◌, length, arith, refl, Some, slice_get, sum_by, sum_by-cons, total}
 
 total_first : (h : ℕ → ℕ) (n : ℕ) → total h (suc n) ≡ h 0 + total (λ k. h (suc k)) n
 total_first h zero = omega arith

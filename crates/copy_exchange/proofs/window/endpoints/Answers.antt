@@ -1,5 +1,4 @@
-use Rattle.copy_exchange.proofs.Common.{rules, ◌≡◌, ◌+◌, ◌^◌, ◌<◌, true, List, [], ◌∷◌, ◌++◌, length, vec_len, sym, ap, ◌∙◌, subst, arith, length-append, map-id, Each, AllZip, zip, YieldsList-from_zip, YieldsList-from_vec, YieldsList-turn, YieldsList-end, TakerView, Endpoint, Together, StartsAs, HasMarks, HasPushedNothing}
-use Rattle.std.proofs.lemmas.Slice.Zip.{length-zip}
+use Rattle.copy_exchange.proofs.Common.{[], rules, ◌≡◌, ◌+◌, true, List, ◌∷◌, ◌++◌, length, vec_len, sym, ap, ◌∙◌, subst, arith, length-append, map-id, Each, AllZip, zip, YieldsList-from_zip, YieldsList-from_vec, YieldsList-end, TakerView, Endpoint, Together, StartsAs, HasMarks, HasPushedNothing}
 use Rattle.copy_exchange.proofs.AfterWindow.{Row}
 use Rattle.copy_exchange.proofs.Starts.{opens_no_rows, opens_more_rows, built, built_more, together, starts, pushed_nothing, has_marks}
 use Rattle.copy_exchange.proofs.window.endpoints.Goals as goal

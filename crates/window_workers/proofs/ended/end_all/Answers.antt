@@ -1,8 +1,4 @@
-use Rattle.std.proofs.Common.{rules, ◌≡◌, sym, ◌∙◌, map-id, vec_len, length}
-use Rattle.std.proofs.lemmas.Iterator.Adapters.{YieldsList-from_vec}
-use Rattle.std.proofs.lemmas.Iterator.Consumers.{YieldsList-end}
-use Rattle.fork_join.proofs.Zips.{push_zip}
-use Rattle.window_workers.specs.Over.{TellsWhatItKept}
+use Rattle.window_workers.proofs.Common.{rules, ◌≡◌, sym, ◌∙◌, map-id, vec_len, length, YieldsList-from_vec, YieldsList-end, push_zip, TellsWhatItKept}
 use Rattle.window_workers.proofs.ended.end_all.Goals as goal
 
 pub loop-share-preserved : goal.loop-share-preserved

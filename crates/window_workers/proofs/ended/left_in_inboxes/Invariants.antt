@@ -1,7 +1,4 @@
-use Rattle.std.proofs.Common.{◌≡◌, ◌+◌, length, take}
-use Rattle.std.specs.List.{sum_by}
-use Rattle.copy_exchange.specs.Takers.{taken_by, gathered_by}
-use Rattle.window_workers.specs.Crossed.{Pair}
+use Rattle.window_workers.proofs.Common.{◌≡◌, ◌+◌, length, take, sum_by, taken_by, gathered_by, Pair}
 use Rattle.window_workers.proofs.ended.left_in_inboxes.Given as goal
 
 abbrev pub invariant-loop-inbox : goal.invariant-loop-inbox

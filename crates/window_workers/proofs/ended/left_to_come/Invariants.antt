@@ -1,6 +1,4 @@
-use Rattle.std.proofs.Common.{◌≡◌, take}
-use Rattle.std.specs.List.{sum_by}
-use Rattle.worker_window.specs.declared.share.EndedShare.{EndedShare}
+use Rattle.window_workers.proofs.Common.{◌≡◌, take, sum_by, EndedShare}
 use Rattle.window_workers.proofs.ended.left_to_come.Given as goal
 
 abbrev pub invariant-loop-one : goal.invariant-loop-one

@@ -1,10 +1,4 @@
-use Rattle.std.proofs.Common.{◌≡◌, ◌∙◌, ap, arith, length, length-append, []}
-use Rattle.mote_net.specs.Meaning.{net_of}
-use Rattle.window_laws.specs.Windows.{first_mote}
-use Rattle.net_agenda.specs.NetSystem.{system_of}
-use Rattle.net_agenda.proofs.Boots.{pushed}
-use Rattle.worker_window.specs.declared.share.Share.{Share}
-use Rattle.worker_window.specs.Share.{IsWholeShare}
+use Rattle.window_workers.proofs.Common.{◌≡◌, ◌∙◌, ap, arith, length, length-append, [], net_of, first_mote, system_of, pushed, Share, IsWholeShare}
 use Rattle.window_workers.proofs.group.first_shares.Goals as goal
 
 pub loop-worker-preserved : goal.loop-worker-preserved

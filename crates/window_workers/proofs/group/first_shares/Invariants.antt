@@ -1,5 +1,4 @@
-use Rattle.mote_net.specs.Meaning.{net_of}
-use Rattle.window_workers.specs.Start.{AreFirst}
+use Rattle.window_workers.proofs.Common.{net_of, AreFirst}
 use Rattle.window_workers.proofs.group.first_shares.Given as goal
 
 abbrev pub invariant-loop-worker : goal.invariant-loop-worker

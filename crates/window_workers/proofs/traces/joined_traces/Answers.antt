@@ -1,9 +1,4 @@
-use Rattle.std.proofs.Common.{◌≡◌, ◌∙◌, ap, arith, length, length-append, slice_index, Vec}
-use Rattle.std.specs.declared.alloc.Global.{Global}
-use Rattle.std.proofs.lemmas.List.{get_or_default}
-use Rattle.trace_lines.specs.declared.line.Line.{Line}
-use Rattle.net_agenda.proofs.Boots.{pushed}
-use Rattle.window_workers.specs.Over.{reported_trace}
+use Rattle.window_workers.proofs.Common.{◌≡◌, ◌∙◌, ap, arith, length, length-append, slice_index, Vec, Global, get_or_default, Line, pushed, reported_trace}
 use Rattle.window_workers.proofs.traces.joined_traces.Goals as goal
 
 pub loop-mote-preserved : goal.loop-mote-preserved

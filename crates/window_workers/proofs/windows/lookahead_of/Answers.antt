@@ -1,8 +1,4 @@
-use Rattle.std.proofs.Common.{◌∙◌, length, ap, sym}
-use Rattle.radio_medium.specs.Medium.{Radio, lookahead, medium_fault}
-use Rattle.mote_net.specs.Meaning.{net_of}
-use Rattle.net_agenda.specs.NetSystem.{system_of}
-use Rattle.net_agenda.proofs.Systems.{system_is}
+use Rattle.window_workers.proofs.Common.{◌∙◌, length, ap, sym, Radio, lookahead, medium_fault, net_of, system_of, system_is}
 use Rattle.window_workers.proofs.windows.lookahead_of.Goals as goal
 
 pub returns-clause-value : goal.returns-clause-value

@@ -1,5 +1,4 @@
-use Rattle.std.proofs.Common.{◌≡◌, map}
-use Rattle.window_workers.specs.declared.worker.Worker.{Worker}
+use Rattle.window_workers.proofs.Common.{◌≡◌, map, Worker}
 use Rattle.window_workers.proofs.worker.split_workers.Given as goal
 
 abbrev pub invariant-loop-worker : goal.invariant-loop-worker

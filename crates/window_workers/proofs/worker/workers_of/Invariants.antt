@@ -1,5 +1,4 @@
-use Rattle.std.proofs.Common.{◌≡◌, map}
-use Rattle.window_workers.specs.Worker.{make_worker}
+use Rattle.window_workers.proofs.Common.{◌≡◌, map, make_worker}
 use Rattle.window_workers.proofs.worker.workers_of.Given as goal
 
 abbrev pub invariant-loop-share : goal.invariant-loop-share

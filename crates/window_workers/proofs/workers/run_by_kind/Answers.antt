@@ -1,6 +1,4 @@
-use Rattle.std.proofs.Common.{subst}
-use Rattle.std.specs.List.{AllByRecursion as Each}
-use Rattle.window_workers.specs.Sync.{IsForKind}
+use Rattle.window_workers.proofs.Common.{subst, Each, IsForKind}
 use Rattle.window_workers.proofs.workers.run_by_kind.Goals as goal
 
 pub run_by_joins-ran-requires-clause-plain : goal.run_by_joins-ran-requires-clause-plain

@@ -1,6 +1,4 @@
-use Rattle.std.proofs.Common.{rules, ◌≡◌, ◌∙◌, refl, subst, vec_len, length}
-use Rattle.mote_net.specs.Meaning.{net_of}
-use Rattle.window_workers.specs.Start.{AreFirst}
+use Rattle.window_workers.proofs.Common.{rules, ◌≡◌, ◌∙◌, refl, subst, vec_len, length, net_of, AreFirst}
 use Rattle.window_workers.proofs.Starts.{starts}
 use Rattle.window_workers.proofs.group.WorkerGroup.new.Goals as goal
 

@@ -1,5 +1,4 @@
-use Rattle.std.proofs.Common.{take}
-use Rattle.window_workers.specs.JoinedNext.{FirstOfAll}
+use Rattle.window_workers.proofs.Common.{take, FirstOfAll}
 use Rattle.window_workers.proofs.joins.next.first_of_all.Given as goal
 
 abbrev pub invariant-loop-worker : goal.invariant-loop-worker

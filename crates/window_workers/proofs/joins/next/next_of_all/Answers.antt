@@ -1,5 +1,4 @@
-use Rattle.std.proofs.Common.{subst}
-use Rattle.window_workers.specs.JoinedNext.{IsNextOfAll}
+use Rattle.window_workers.proofs.Common.{subst, IsNextOfAll}
 use Rattle.window_workers.proofs.JoinedNexts.{next_of_next, taken_all}
 use Rattle.window_workers.proofs.joins.next.next_of_all.Goals as goal
 

@@ -1,5 +1,4 @@
-use Rattle.std.proofs.Common.{take}
-use Rattle.window_workers.specs.JoinedNext.{IsNextOfAll}
+use Rattle.window_workers.proofs.Common.{take, IsNextOfAll}
 use Rattle.window_workers.proofs.joins.next.next_of_all.Given as goal
 
 abbrev pub invariant-loop-share : goal.invariant-loop-share

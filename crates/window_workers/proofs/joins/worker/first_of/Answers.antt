@@ -1,5 +1,4 @@
-use Rattle.std.proofs.Common.{sym, subst, take, get_or}
-use Rattle.window_workers.specs.JoinedWorker.{IsFirstOf}
+use Rattle.window_workers.proofs.Common.{sym, subst, take, get_or, IsFirstOf}
 use Rattle.window_workers.proofs.JoinedFirsts.{first_more, no_copy, one_taken, all_taken}
 use Rattle.window_workers.proofs.joins.worker.first_of.Goals as goal
 

@@ -1,5 +1,4 @@
-use Rattle.std.proofs.Common.{take}
-use Rattle.window_workers.specs.JoinedWorker.{IsFirstOf}
+use Rattle.window_workers.proofs.Common.{take, IsFirstOf}
 use Rattle.window_workers.proofs.joins.worker.first_of.Given as goal
 
 abbrev pub invariant-loop-copy : goal.invariant-loop-copy

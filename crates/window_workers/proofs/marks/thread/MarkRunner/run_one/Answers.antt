@@ -1,7 +1,4 @@
-use Rattle.std.proofs.Common.{suc, ◌≤◌}
-use Rattle.std.proofs.lemmas.Result.{IfOk-weaker}
-use Rattle.mote_net.specs.Meaning.{net_of}
-use Rattle.window_workers.specs.MarkedThread.{LeadsOn, TakesWindow}
+use Rattle.window_workers.proofs.Common.{suc, ◌≤◌, IfOk-weaker, net_of, LeadsOn, TakesWindow}
 use Rattle.window_workers.proofs.MarkedWindows.{one_more}
 use Rattle.window_workers.proofs.marks.thread.MarkRunner.run_one.Goals as goal
 

@@ -1,8 +1,4 @@
-use Rattle.std.proofs.Common.{subst, append-nil, List, length}
-use Rattle.std.specs.List.{AllByRecursion as Each}
-use Rattle.radio_packet.specs.declared.copy.RadioCopy.{RadioCopy}
-use Rattle.mote_net.specs.Meaning.{net_of}
-use Rattle.worker_window.specs.Window.{IsOutgoing, RunsWindow}
+use Rattle.window_workers.proofs.Common.{subst, append-nil, List, length, Each, RadioCopy, net_of, IsOutgoing, RunsWindow}
 use Rattle.window_workers.proofs.Sent.{leaves_sent}
 use Rattle.window_workers.proofs.marks.thread.MarkRunner.send_window.Goals as goal
 
