@@ -1,5 +1,21 @@
 -- The items that the takers have gathered after a window.
-use Rattle.copy_exchange.proofs.Common.{◌≡◌, ℕ, zero, suc, ◌+◌, ◌<◌, Bool, List, [], ◌∷◌, ◌++◌, length, map, get_or, slice_get, Option, Some, None, Vec, refl, sym, ap, ◌∙◌, subst, arith, Each, AllZip, cons_option, filter_map, range_with_len, length-map, filter_map-append, length-range_with_len, get_or_from_slice_get, slice_get-get_or, Global, TakerState, SenderState, Packets, is_gathered, InboxId, TakerView, SenderView, after_gather, AllGathered, PacketsLeft, Endpoint, copies_gathered, IsOrderly, IsEndpoint, IsOnInboxes, IsCollected, DeliversOwn, Stays, AreOpen, Returns, AllReturn, GathersDelivered, sender_to, senders_to, identity_of, HasNoMarks, IsSettled, Settled, AreTakersOf, GathersRow, GathersBack, AgreesWithSender, gather_into, gather_senders, at_place}
+use Rattle.std.proofs.Common.{[], ◌≡◌, ℕ, zero, suc, ◌+◌, ◌<◌, Bool, List, ◌∷◌, ◌++◌, length, map, get_or, slice_get, Option, Some, None, Vec, refl, sym, ap, ◌∙◌, subst, arith}
+use Rattle.std.proofs.lemmas.List.{length-map}
+use Rattle.std.proofs.lemmas.List.Elements.{filter_map-append}
+use Rattle.std.proofs.lemmas.List.FromFn.{length-range_with_len}
+use Rattle.std.proofs.lemmas.Option.{get_or_from_slice_get, slice_get-get_or}
+use Rattle.std.specs.List.{AllByRecursion as Each, AllZip, cons_option, filter_map, range_with_len}
+use Rattle.std.specs.declared.alloc.Global.{Global}
+use Rattle.copy_exchange.specs.Endpoints.{IsEndpoint, IsOnInboxes, IsCollected, DeliversOwn, Stays, AreOpen, Returns, AllReturn, GathersDelivered, sender_to, senders_to, identity_of}
+use Rattle.copy_exchange.specs.Inboxes.{HasNoMarks, IsSettled, Settled}
+use Rattle.copy_exchange.specs.Steps.{AreTakersOf, GathersRow, GathersBack, AgreesWithSender, gather_into, gather_senders, at_place}
+use Rattle.copy_exchange.specs.Takers.{copies_gathered, IsOrderly}
+use Rattle.copy_exchange.specs.declared.endpoint.Endpoint.{Endpoint}
+use Rattle.copy_inbox.specs.Gathered.{is_gathered}
+use Rattle.copy_inbox.specs.Handles.{InboxId, TakerView, SenderView, after_gather, AllGathered, PacketsLeft}
+use Rattle.copy_inbox.specs.Items.{Packets}
+use Rattle.copy_inbox.specs.declared.rule.SenderState.{SenderState}
+use Rattle.copy_inbox.specs.declared.rule.TakerState.{TakerState}
 use Rattle.copy_exchange.proofs.Gathers.{gather_is, with_joined, numbers_of, joined_copies, all_gathered, orderly_then}
 use Rattle.copy_exchange.proofs.Gathers.{packets_then, OneOf}
 use Rattle.copy_exchange.proofs.Lists.{each_from, each_join, each_map}

@@ -1,5 +1,13 @@
 -- All senders of all endpoints are gathered, row by row.
-use Rattle.copy_exchange.proofs.Common.{◌≡◌, ℕ, ◌<◌, ◌==◌, Bool, true, false, List, [], ◌∷◌, length, map, get_or, slice_get, Option, Some, refl, sym, ap, ◌∙◌, subst, arith, option_map, Each, cons_option, range_with_len, length-map, length-range_with_len, get_or_from_slice_get, slice_get-get_or, slice_get-map, slice_get_within, InboxId, TakerView, SenderView, Endpoint, IsOnInboxes, IsSenderOn, sender_to, senders_to, AreTakersOf, AreSendersOn, GathersBack, AgreesWithSender, gather_senders}
+use Rattle.std.proofs.Common.{[], ◌≡◌, ℕ, ◌<◌, ◌==◌, Bool, true, false, List, ◌∷◌, length, map, get_or, slice_get, Option, Some, refl, sym, ap, ◌∙◌, subst, arith, option_map}
+use Rattle.std.proofs.lemmas.List.{length-map}
+use Rattle.std.proofs.lemmas.List.FromFn.{length-range_with_len}
+use Rattle.std.proofs.lemmas.Option.{get_or_from_slice_get, slice_get-get_or, slice_get-map, slice_get_within}
+use Rattle.std.specs.List.{AllByRecursion as Each, cons_option, range_with_len}
+use Rattle.copy_exchange.specs.Endpoints.{IsOnInboxes, IsSenderOn, sender_to, senders_to}
+use Rattle.copy_exchange.specs.Steps.{AreTakersOf, AreSendersOn, GathersBack, AgreesWithSender, gather_senders}
+use Rattle.copy_exchange.specs.declared.endpoint.Endpoint.{Endpoint}
+use Rattle.copy_inbox.specs.Handles.{InboxId, TakerView, SenderView}
 use Rattle.copy_exchange.proofs.AfterWindow.{Row, GathersRows, row_senders, pick}
 use Rattle.copy_exchange.proofs.Lists.{each_at}
 use Rattle.copy_exchange.proofs.Owns.{workers_of}

@@ -1,5 +1,18 @@
 -- A drain of all known items.
-use Rattle.copy_exchange.proofs.Common.{◌≡◌, List, ◌++◌, Some, Result, Ok, Err, IfOk, OnOk, Vec, refl, sym, ap, ◌∙◌, subst, append_assoc, Global, RadioCopy, Item, TakerState, make_taker_state, copies_of, part, TookFronts, Whole, NoOthers, InboxId, TakerView, TakesCopies, after_taking, Endpoint, packets_copies, IsEndpoint, Collects, HasNoMarks, SameOfEach, taken_by, gathered_by, IsRest, IsOrderly}
+use Rattle.std.proofs.Common.{◌≡◌, List, ◌++◌, Some, Result, Ok, Err, IfOk, OnOk, Vec, refl, sym, ap, ◌∙◌, subst, append_assoc}
+use Rattle.std.specs.declared.alloc.Global.{Global}
+use Rattle.copy_exchange.specs.Endpoints.{IsEndpoint, Collects}
+use Rattle.copy_exchange.specs.Inboxes.{HasNoMarks}
+use Rattle.copy_exchange.specs.Takers.{SameOfEach, taken_by, gathered_by, IsRest, IsOrderly}
+use Rattle.copy_exchange.specs.declared.endpoint.Endpoint.{Endpoint}
+use Rattle.copy_inbox.proofs.Parts.{packets_copies}
+use Rattle.copy_inbox.specs.Gathered.{TookFronts, Whole, NoOthers}
+use Rattle.copy_inbox.specs.Handles.{InboxId, TakerView, TakesCopies, after_taking}
+use Rattle.copy_inbox.specs.Items.{copies_of, part}
+use Rattle.copy_inbox.specs.Views.{make_taker_state}
+use Rattle.copy_inbox.specs.declared.items.Item.{Item}
+use Rattle.copy_inbox.specs.declared.rule.TakerState.{TakerState}
+use Rattle.radio_packet.specs.declared.copy.RadioCopy.{RadioCopy}
 use Rattle.copy_inbox.specs.declared.inbox.InboxError.{InboxError}
 use Rattle.copy_exchange.proofs.Parts.{from, copies-append}
 

@@ -1,5 +1,20 @@
 -- The number of copies that were gathered.
-use Rattle.copy_exchange.proofs.Common.{◌≡◌, ◌≢◌, ℕ, ◌+◌, Bool, true, false, cond, eqb, List, [], ◌∷◌, length, filter, drop, refl, ap, ◌∙◌, subst, ⊎_elim, arith, length-append, Each, cons_option, true_from_ne_false, eqb_tells, drop-append_seam, RadioCopy, Carried, Packet, Mark, Item, Gathered, TakerState, copies_of, carried_copy, carries_packet, Packets, part, is_gathered, Apart, TookFronts, known_of, untaken_of, PacketsLeft, part-here, part-else, part-not_nil, part-nil_right, copies_gathered, copies_in, IsOrderly}
+use Rattle.std.proofs.Common.{[], ◌≡◌, ◌≢◌, ℕ, ◌+◌, Bool, true, false, cond, eqb, List, ◌∷◌, length, filter, drop, refl, ap, ◌∙◌, subst, ⊎_elim, arith, length-append}
+use Rattle.std.proofs.Math.Seq.{drop-append_seam}
+use Rattle.std.proofs.lemmas.Bool.{true_from_ne_false}
+use Rattle.std.proofs.lemmas.Bool.Decides.{eqb_tells}
+use Rattle.std.specs.List.{AllByRecursion as Each, cons_option}
+use Rattle.copy_exchange.specs.Takers.{copies_gathered, copies_in, IsOrderly}
+use Rattle.copy_inbox.proofs.Parts.{part-here, part-else, part-not_nil, part-nil_right}
+use Rattle.copy_inbox.specs.Gathered.{is_gathered, Apart, TookFronts, known_of, untaken_of}
+use Rattle.copy_inbox.specs.Handles.{PacketsLeft}
+use Rattle.copy_inbox.specs.Items.{copies_of, carried_copy, carries_packet, Packets, part}
+use Rattle.copy_inbox.specs.declared.items.Carried.{Carried}
+use Rattle.copy_inbox.specs.declared.items.Carried.TheVariants.{Packet, Mark}
+use Rattle.copy_inbox.specs.declared.items.Item.{Item}
+use Rattle.copy_inbox.specs.declared.rule.Gathered.{Gathered}
+use Rattle.copy_inbox.specs.declared.rule.TakerState.{TakerState}
+use Rattle.radio_packet.specs.declared.copy.RadioCopy.{RadioCopy}
 use Rattle.std.proofs.lemmas.List.Sums.{sum_by-cons}
 use Rattle.copy_inbox.proofs.Counts.{tally, front_counts, tally-nil}
 use Rattle.copy_exchange.proofs.Lists.{either}

@@ -1,7 +1,10 @@
 -- The numbers of copies, and their order, by the worker of their receiver and by their sender.
-use Rattle.copy_exchange.proofs.Common.{◌≡◌, ◌⊎◌, ℕ, zero, suc, ◌+◌, ◌<◌, ◌≤◌, true, false, cond, eqb, List, [], ◌∷◌, length, refl, ap, ap₂, ◌∙◌, arith, inl, inr, Some, AllByRecursion, option_map_or, cases_Bool, cases_order, RadioCopy, is_own, is_to}
-use Rattle.std.specs.List.{filter, slice_get}
-use Rattle.std.proofs.lemmas.Bool.{eq-eqb, ne_eqb}
+use Rattle.std.proofs.Common.{[], ◌≡◌, ◌⊎◌, ℕ, zero, suc, ◌+◌, ◌<◌, ◌≤◌, true, false, cond, eqb, List, ◌∷◌, length, refl, ap, ap₂, ◌∙◌, arith, inl, inr, Some}
+use Rattle.std.specs.Option.{option_map_or}
+use Rattle.copy_exchange.specs.Crossed.{is_own, is_to}
+use Rattle.radio_packet.specs.declared.copy.RadioCopy.{RadioCopy}
+use Rattle.std.specs.List.{filter, slice_get, AllByRecursion}
+use Rattle.std.proofs.lemmas.Bool.{eq-eqb, ne_eqb, cases_Bool, cases_order}
 
 -- the sum of the numbers of all workers below n
 abbrev pub total : (ℕ → ℕ) → (n : ℕ) → ℕ

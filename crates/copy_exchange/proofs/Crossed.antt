@@ -1,5 +1,14 @@
 -- The copies that cross between workers make up the copies for each mote in a window.
-use Rattle.copy_exchange.proofs.Common.{◌≡◌, ◌⊎◌, ℕ, Bool, true, false, not, ◌&&◌, eqb, List, ◌++◌, refl, sym, ap, ◌∙◌, arith, inl, inr, Option, Some, None, option_map_or, cases_Bool, false≢true, eqb-true, nat_tests, filter-append, RadioCopy, System, LoneMote, copies_by, is_at, is_from_sender, is_within, IsGiven, filter_stronger, is_own, is_to, is_for_others, crossed, copies_seen}
+use Rattle.std.proofs.Common.{◌≡◌, ◌⊎◌, ℕ, Bool, true, false, not, ◌&&◌, eqb, List, ◌++◌, refl, sym, ap, ◌∙◌, arith, inl, inr, Option, Some, None}
+use Rattle.std.proofs.lemmas.Bool.{cases_Bool, false≢true, eqb-true}
+use Rattle.std.proofs.lemmas.Bool.Decides.{nat_tests}
+use Rattle.std.proofs.lemmas.List.Elements.{filter-append}
+use Rattle.std.specs.Option.{option_map_or}
+use Rattle.copy_exchange.specs.Crossed.{is_own, is_to, is_for_others, crossed, copies_seen}
+use Rattle.radio_packet.specs.declared.copy.RadioCopy.{RadioCopy}
+use Rattle.window_laws.proofs.Lists.{filter_stronger}
+use Rattle.window_laws.specs.System.{System}
+use Rattle.window_laws.specs.Windows.{LoneMote, copies_by, is_at, is_from_sender, is_within, IsGiven}
 use Rattle.std.specs.List.{filter, slice_get}
 
 and_left : (a b : Bool) → (a && b) ≡ true → a ≡ true

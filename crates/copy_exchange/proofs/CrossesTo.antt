@@ -1,6 +1,16 @@
 -- The copies that each worker gathered are those that crossed to it.
-use Rattle.copy_exchange.proofs.Common.{◌≡◌, ◌⊎◌, ℕ, Bool, true, false, cond, not, ◌&&◌, eqb, List, [], ◌∷◌, ◌++◌, refl, sym, ap, ◌∙◌, subst, inl, inr, append_assoc, IsPermutation, flat_map, AllByRecursion, cases_Bool, filter-append, Sent, RadioCopy, System, RunsForward, LoneMote, copies_by, is_from_sender, is_sent_by, IsJoined, as_log, filter_filter, filter_every, filter_none, filter_never, every_weaker, is_own, crossed}
-use Rattle.std.specs.List.{filter}
+use Rattle.std.proofs.Common.{[], ◌≡◌, ◌⊎◌, ℕ, Bool, true, false, cond, not, ◌&&◌, eqb, List, ◌∷◌, ◌++◌, refl, sym, ap, ◌∙◌, subst, inl, inr, append_assoc}
+use Rattle.std.proofs.lemmas.Bool.{cases_Bool}
+use Rattle.std.proofs.lemmas.List.Elements.{filter-append}
+use Rattle.std.specs.Prelude.{IsPermutation}
+use Rattle.copy_exchange.specs.Crossed.{is_own, crossed}
+use Rattle.radio_packet.specs.declared.copy.RadioCopy.{RadioCopy}
+use Rattle.radio_packet.specs.declared.sent.Sent.{Sent}
+use Rattle.window_laws.proofs.Lists.{filter_filter, filter_every, filter_none, filter_never, every_weaker}
+use Rattle.window_laws.specs.Forward.{RunsForward}
+use Rattle.window_laws.specs.System.{System}
+use Rattle.window_laws.specs.Windows.{LoneMote, copies_by, is_from_sender, is_sent_by, IsJoined, as_log}
+use Rattle.std.specs.List.{filter, flat_map, AllByRecursion}
 use Rattle.std.proofs.lemmas.List.Sorted.{IsPermutation-refl, IsPermutation-sym, IsPermutation-trans, IsPermutation-cons, IsPermutation-middle, IsPermutation-append_left, IsPermutation-append_right, IsPermutation-append_comm}
 use Rattle.window_laws.specs.Order.{is_before, insert_by, sorted_by}
 use Rattle.window_laws.proofs.Order.{in_order_same}

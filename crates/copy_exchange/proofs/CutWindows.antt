@@ -1,6 +1,14 @@
 -- The windows so far, and the copies that are on their way after them.
-use Rattle.copy_exchange.proofs.Common.{◌≡◌, ℕ, suc, ◌+◌, ◌-◌, ◌<◌, ◌≤◌, true, cond, ltb, List, [], ◌∷◌, map, length, refl, sym, ap, ◌∙◌, subst, arith, inl, inr, flat_map, AllByRecursion, cases_Bool, ltb-true, ltb-false, not-true, RadioCopy, Sent, System, RunsForward, up_to, LoneMote, first_mote, Windows, Last, Window, RunsAlone, NoneBefore, copies_by, is_from_sender, IsJoined, as_log, filter_filter, every_weaker, every_flat_map, every_filter}
-use Rattle.std.specs.List.{filter}
+use Rattle.std.proofs.Common.{[], ◌≡◌, ℕ, suc, ◌+◌, ◌-◌, ◌<◌, ◌≤◌, true, cond, ltb, List, ◌∷◌, map, length, refl, sym, ap, ◌∙◌, subst, arith, inl, inr}
+use Rattle.std.proofs.lemmas.Bool.{cases_Bool, ltb-true, ltb-false, not-true}
+use Rattle.radio_packet.specs.declared.copy.RadioCopy.{RadioCopy}
+use Rattle.radio_packet.specs.declared.sent.Sent.{Sent}
+use Rattle.window_laws.proofs.Lists.{filter_filter, every_weaker, every_flat_map, every_filter}
+use Rattle.window_laws.specs.Agenda.{up_to}
+use Rattle.window_laws.specs.Forward.{RunsForward}
+use Rattle.window_laws.specs.System.{System}
+use Rattle.window_laws.specs.Windows.{LoneMote, first_mote, Windows, Last, Window, RunsAlone, NoneBefore, copies_by, is_from_sender, IsJoined, as_log}
+use Rattle.std.specs.List.{filter, flat_map, AllByRecursion}
 use Rattle.window_laws.specs.Pending.{comes_from, IsPending}
 use Rattle.window_laws.specs.Report.{IsReport}
 use Rattle.window_laws.proofs.Pending.{gap, pending_left}

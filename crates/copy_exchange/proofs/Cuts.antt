@@ -1,5 +1,7 @@
 -- A partition, mote by mote.
-use Rattle.copy_exchange.proofs.Common.{◌≡◌, ℕ, ◌+◌, List, [], ◌∷◌, ◌++◌, map, sym, ap, ◌∙◌, add-one, map_push, up_to}
+use Rattle.std.proofs.Common.{[], ◌≡◌, ℕ, ◌+◌, List, ◌∷◌, ◌++◌, map, sym, ap, ◌∙◌, add-one}
+use Rattle.std.proofs.lemmas.List.{map_push}
+use Rattle.window_laws.specs.Agenda.{up_to}
 
 -- the workers of the motes below n, followed by the worker of mote n
 pub one_more : (f : ℕ → ℕ) (n : ℕ) (before after : List ℕ) (w : ℕ) → before ≡ map f (up_to n)

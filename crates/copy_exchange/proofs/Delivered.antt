@@ -1,5 +1,20 @@
 -- One more copy is delivered.
-use Rattle.copy_exchange.proofs.Common.{◌≡◌, ◌≢◌, ℕ, zero, suc, ◌<◌, ◌==◌, Bool, true, false, cond, eqb, List, [], ◌∷◌, ◌++◌, length, map, filter, get_or, slice_get, slice_index, Option, Some, None, refl, sym, ap, ◌∙◌, subst, ⊎_elim, arith, append-nil, append_assoc, length-set, eq-eqb, ne_eqb, map-set_same, eqb_tells, get_or-set_same, get_or-set_other, map-append, filter-append, slice_get-get_or, IsSomeAnd, RadioCopy, Carried, Packet, SenderState, InboxId, TakerView, SenderView, after_pushing, Endpoint, copies_in, IsOrderly, is_to, IsEndpoint, IsOnInboxes, IsSenderOn, Leaves, Stays, Delivers, sender_to, delivered, pushed_by, pushed_list, pushed_to, identity_of}
+use Rattle.std.proofs.Common.{[], ◌≡◌, ◌≢◌, ℕ, zero, suc, ◌<◌, ◌==◌, Bool, true, false, cond, eqb, List, ◌∷◌, ◌++◌, length, map, filter, get_or, slice_get, slice_index, Option, Some, None, refl, sym, ap, ◌∙◌, subst, ⊎_elim, arith, append-nil, append_assoc, length-set, eq-eqb, ne_eqb}
+use Rattle.std.proofs.Math.Seq.{map-set_same}
+use Rattle.std.proofs.lemmas.Bool.Decides.{eqb_tells}
+use Rattle.std.proofs.lemmas.List.{get_or-set_same, get_or-set_other, map-append}
+use Rattle.std.proofs.lemmas.List.Elements.{filter-append}
+use Rattle.std.proofs.lemmas.Option.{slice_get-get_or}
+use Rattle.std.specs.Option.{IsSomeAnd}
+use Rattle.copy_exchange.specs.Crossed.{is_to}
+use Rattle.copy_exchange.specs.Endpoints.{IsEndpoint, IsOnInboxes, IsSenderOn, Leaves, Stays, Delivers, sender_to, delivered, pushed_by, pushed_list, pushed_to, identity_of}
+use Rattle.copy_exchange.specs.Takers.{copies_in, IsOrderly}
+use Rattle.copy_exchange.specs.declared.endpoint.Endpoint.{Endpoint}
+use Rattle.copy_inbox.specs.Handles.{InboxId, TakerView, SenderView, after_pushing}
+use Rattle.copy_inbox.specs.declared.items.Carried.{Carried}
+use Rattle.copy_inbox.specs.declared.items.Carried.TheVariants.{Packet}
+use Rattle.copy_inbox.specs.declared.rule.SenderState.{SenderState}
+use Rattle.radio_packet.specs.declared.copy.RadioCopy.{RadioCopy}
 use Rattle.std.specs.Vec.{with_item}
 use Rattle.copy_exchange.proofs.Owners.{own_is}
 use Rattle.copy_exchange.proofs.Parts.{copies_in-append}

@@ -1,5 +1,15 @@
--- Copies that arrived early can't be seen.
-use Rattle.copy_exchange.proofs.Common.{◌≡◌, ℕ, zero, suc, ◌+◌, ◌-◌, ◌<◌, ◌≤◌, Bool, true, false, List, [], ◌∷◌, ◌++◌, map, filter, refl, sym, ap, ◌∙◌, arith, subst, append_assoc, append-nil, Each, filter-append, RadioCopy, Carried, Packet, Mark, copies_in, marks_in, pushes, sent_before, EarlyIsUnseen}
+-- Copies that are taken early: they were sent in the window in which they are taken, or in a later one.
+use Rattle.std.proofs.Common.{[], ◌≡◌, ℕ, zero, suc, ◌+◌, ◌-◌, ◌<◌, ◌≤◌, true, false, List, ◌∷◌, ◌++◌, map, filter, refl, sym, ap, ◌∙◌, arith, subst, append_assoc, append-nil}
+use Rattle.std.proofs.lemmas.List.Elements.{filter-append}
+use Rattle.std.specs.List.{AllByRecursion as Each}
+use Rattle.copy_exchange.specs.Laws.{EarlyIsUnseen}
+use Rattle.copy_exchange.specs.Pushes.{marks_in, pushes, sent_before}
+use Rattle.copy_exchange.specs.Takers.{copies_in}
+use Rattle.copy_inbox.specs.Items.{HasPrefix}
+use Rattle.copy_inbox.specs.declared.items.Carried.{Carried}
+use Rattle.copy_inbox.specs.declared.items.Carried.TheVariants.{Packet, Mark}
+use Rattle.radio_packet.specs.declared.copy.RadioCopy.{RadioCopy}
+use Rattle.window_laws.proofs.Lists.{every_append, filter_none}
 use Rattle.copy_exchange.proofs.Parts.{copies_in-append}
 use Rattle.copy_exchange.proofs.Whole.{closed, closed_pushes, closed_after, none_closed, marks_pushes}
 
@@ -48,40 +58,46 @@ goes_on (Mark n ∷ xs) ys (y ∷ taken) rest e h m =
     let r = goes_on xs ys taken rest (ap rest_of e) h (omega arith) in
     (r.0, ap (λ z. z ∷ taken) (sym first) ∙ ap (λ l. Mark n ∷ l) r.1, r.2)
 
-module _ (p : RadioCopy → Bool) where
-  abbrev NonePasses : List RadioCopy → Type 0
-  NonePasses xs = Each (λ c. p c ≡ false) xs
+module _ (P : RadioCopy → Type 0) where
+  front_each : (xs ys : List RadioCopy) → Each P (xs ++ ys) → Each P xs
+  front_each [] ys h = tt
+  front_each (x ∷ xs) ys h = (h.0, front_each xs ys h.1)
 
-  none_passes : (xs ys : List RadioCopy) → NonePasses xs → NonePasses ys → NonePasses (xs ++ ys)
-  none_passes [] ys h k = k
-  none_passes (x ∷ xs) ys h k = (h.0, none_passes xs ys h.1 k)
+  back_each : (xs ys : List RadioCopy) → Each P (xs ++ ys) → Each P ys
+  back_each [] ys h = h
+  back_each (x ∷ xs) ys h = back_each xs ys h.1
 
-  front_none : (xs ys : List RadioCopy) → NonePasses (xs ++ ys) → NonePasses xs
-  front_none [] ys h = tt
-  front_none (x ∷ xs) ys h = (h.0, front_none xs ys h.1)
+  later_each : (k m : ℕ) (sent : ℕ → List RadioCopy) → ((j : ℕ) → k ≤ j → j < k + m → Each P (sent j)) → Each P (copies_in (from_window k m sent))
+  later_each k zero sent h = tt
+  later_each k (suc m) sent h =
+      let one : Each P (copies_in (map Packet (sent (k + m)) ++ Mark (k + m) ∷ [])) = subst (λ l. Each P l) (sym (copies_window (sent (k + m)) (k + m))) (h (k + m) (omega arith) (omega arith)) in
+      subst (λ l. Each P l) (sym (copies_in-append (from_window k m sent) (map Packet (sent (k + m)) ++ Mark (k + m) ∷ [])))
+      (every_append P (copies_in (from_window k m sent)) (copies_in (map Packet (sent (k + m)) ++ Mark (k + m) ∷ [])) (later_each k m sent (λ j le lt. h j le (omega arith))) one)
 
-  filter_none : (xs : List RadioCopy) → NonePasses xs → filter p xs ≡ []
-  filter_none [] h = refl
-  filter_none (x ∷ xs) h = rw h.0 (filter_none xs h.1)
+  -- after the marks of all earlier windows, only copies of this window or later ones were pushed
+  after_marks : (windows k : ℕ) (sent : ℕ → List RadioCopy) (taken rest : List Carried) → k ≤ windows → pushes windows sent ≡ taken ++ rest → k ≤ marks_in taken
+      → ((j : ℕ) → k ≤ j → j < windows → Each P (sent j)) → (more : List Carried) × (taken ≡ pushes k sent ++ more) × Each P (copies_in (more ++ rest))
+  after_marks windows k sent taken rest le e low h =
+      let is : windows ≡ k + (windows - k) = omega arith in
+      let f = sym (pushes_both k (windows - k) sent) ∙ (ap (λ i. pushes i sent) (sym is) ∙ e) in
+      let g = goes_on (pushes k sent) (from_window k (windows - k) sent) taken rest f (closed_pushes k sent) (let c = marks_pushes k sent in omega arith) in
+      (g.0, g.1, subst (λ l. Each P (copies_in l)) g.2 (later_each k (windows - k) sent (λ j ge lt. h j ge (omega arith))))
 
-  later_none : (k m : ℕ) (sent : ℕ → List RadioCopy) → ((j : ℕ) → k ≤ j → j < k + m → NonePasses (sent j)) → NonePasses (copies_in (from_window k m sent))
-  later_none k zero sent h = tt
-  later_none k (suc m) sent h =
-      let one : NonePasses (copies_in (map Packet (sent (k + m)) ++ Mark (k + m) ∷ [])) = subst NonePasses (sym (copies_window (sent (k + m)) (k + m))) (h (k + m) (omega arith) (omega arith)) in
-      subst NonePasses (sym (copies_in-append (from_window k m sent) (map Packet (sent (k + m)) ++ Mark (k + m) ∷ [])))
-      (none_passes (copies_in (from_window k m sent)) (copies_in (map Packet (sent (k + m)) ++ Mark (k + m) ∷ [])) (later_none k m sent (λ j le lt. h j le (omega arith))) one)
-
-  unseen : (windows k m : ℕ) (sent : ℕ → List RadioCopy) (taken rest : List Carried) → windows ≡ k + m → pushes windows sent ≡ taken ++ rest → k ≤ marks_in taken
-      → ((j : ℕ) → k ≤ j → j < k + m → NonePasses (sent j)) → filter p (copies_in taken) ≡ filter p (sent_before k sent)
-  unseen windows k m sent taken rest is e low h =
-      let f = sym (pushes_both k m sent) ∙ (ap (λ i. pushes i sent) (sym is) ∙ e) in
-      let g = goes_on (pushes k sent) (from_window k m sent) taken rest f (closed_pushes k sent) (let c = marks_pushes k sent in omega arith) in
-      let none = front_none (copies_in g.0) (copies_in rest) (subst NonePasses (ap copies_in g.2 ∙ copies_in-append g.0 rest) (later_none k m sent h)) in
-      ap (λ l. filter p (copies_in l)) g.1
-      ∙ (ap (filter p) (copies_in-append (pushes k sent) g.0 ∙ ap (λ l. l ++ copies_in g.0) (copies_pushes k sent))
-      ∙ (filter-append p (sent_before k sent) (copies_in g.0)
-      ∙ (ap (λ l. filter p (sent_before k sent) ++ l) (filter_none (copies_in g.0) none) ∙ append-nil (filter p (sent_before k sent)))))
+  -- so each copy that is taken after these marks was sent in this window or a later one
+  pub taken_late : (windows k : ℕ) (sent : ℕ → List RadioCopy) (had more : List Carried) → k ≤ windows → HasPrefix (pushes windows sent) (had ++ more) → k ≤ marks_in had
+      → ((j : ℕ) → k ≤ j → j < windows → Each P (sent j)) → Each P (copies_in more)
+  taken_late windows k sent had more le begins low h =
+      let rest : List Carried = begins.0 in
+      let a = after_marks windows k sent had (more ++ rest) le (begins.1 ∙ append_assoc had more rest) low h in
+      let both = back_each (copies_in a.0) (copies_in (more ++ rest)) (subst (λ l. Each P l) (copies_in-append a.0 (more ++ rest)) a.2) in
+      front_each (copies_in more) (copies_in rest) (subst (λ l. Each P l) (copies_in-append more rest) both)
 
 pub early_is_unseen : EarlyIsUnseen
 early_is_unseen sees windows window sent taken within begins lead none =
-    unseen sees windows window (windows - window) sent taken begins.0 (omega arith) begins.1 lead (λ j le lt. none j le (omega arith))
+    let Unseen : RadioCopy → Type 0 = λ c. sees c ≡ false in
+    let a = after_marks Unseen windows window sent taken begins.0 within begins.1 lead none in
+    let unseen = front_each Unseen (copies_in a.0) (copies_in begins.0) (subst (λ l. Each Unseen l) (copies_in-append a.0 begins.0) a.2) in
+    ap (λ l. filter sees (copies_in l)) a.1
+    ∙ (ap (filter sees) (copies_in-append (pushes window sent) a.0 ∙ ap (λ l. l ++ copies_in a.0) (copies_pushes window sent))
+    ∙ (filter-append sees (sent_before window sent) (copies_in a.0)
+    ∙ (ap (λ l. filter sees (sent_before window sent) ++ l) (filter_none sees (copies_in a.0) unseen) ∙ append-nil (filter sees (sent_before window sent)))))

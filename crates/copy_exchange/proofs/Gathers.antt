@@ -1,5 +1,23 @@
 -- All open senders of an inbox are gathered, one after another.
-use Rattle.copy_exchange.proofs.Common.{◌≡◌, ◌≢◌, ◌⊎◌, ℕ, zero, suc, ◌+◌, ◌<◌, ◌≤◌, true, false, eqb, List, [], ◌∷◌, ◌++◌, length, map, drop, refl, sym, ap, ◌∙◌, subst, inl, inr, ⊎_elim, arith, append_assoc, append-nil, eq-eqb, ne_eqb, Each, flat_map, range_with_len, cases_lt, eqb_tells, flat_map-cons, drop-append_seam, RadioCopy, Carried, Item, Gathered, TakerState, copies_of, Packets, part, is_gathered, untaken_of, Apart, TookFronts, Whole, make_taker_state, make_gathered, TakerView, SenderView, after_gather, AllGathered, PacketsLeft, part-append, SameOfEach, copies_in, copies_gathered, IsRest, IsOrderly, AreOpen, gather_senders}
+use Rattle.std.proofs.Common.{[], ◌≡◌, ◌≢◌, ◌⊎◌, ℕ, zero, suc, ◌+◌, ◌<◌, ◌≤◌, true, false, eqb, List, ◌∷◌, ◌++◌, length, map, drop, refl, sym, ap, ◌∙◌, subst, inl, inr, ⊎_elim, arith, append_assoc, append-nil, eq-eqb, ne_eqb}
+use Rattle.std.proofs.Math.Seq.{drop-append_seam}
+use Rattle.std.proofs.lemmas.Bool.{cases_lt}
+use Rattle.std.proofs.lemmas.Bool.Decides.{eqb_tells}
+use Rattle.std.proofs.lemmas.List.Concat.{flat_map-cons}
+use Rattle.std.specs.List.{AllByRecursion as Each, flat_map, range_with_len}
+use Rattle.copy_exchange.specs.Endpoints.{AreOpen}
+use Rattle.copy_exchange.specs.Steps.{gather_senders}
+use Rattle.copy_exchange.specs.Takers.{SameOfEach, copies_in, copies_gathered, IsRest, IsOrderly}
+use Rattle.copy_inbox.proofs.Parts.{part-append}
+use Rattle.copy_inbox.specs.Gathered.{is_gathered, untaken_of, Apart, TookFronts, Whole}
+use Rattle.copy_inbox.specs.Handles.{TakerView, SenderView, after_gather, AllGathered, PacketsLeft}
+use Rattle.copy_inbox.specs.Items.{copies_of, Packets, part}
+use Rattle.copy_inbox.specs.Views.{make_taker_state, make_gathered}
+use Rattle.copy_inbox.specs.declared.items.Carried.{Carried}
+use Rattle.copy_inbox.specs.declared.items.Item.{Item}
+use Rattle.copy_inbox.specs.declared.rule.Gathered.{Gathered}
+use Rattle.copy_inbox.specs.declared.rule.TakerState.{TakerState}
+use Rattle.radio_packet.specs.declared.copy.RadioCopy.{RadioCopy}
 use Rattle.copy_exchange.proofs.Lists.{each_map, either, heads}
 use Rattle.copy_exchange.proofs.Parts.{from, from-append, copies-append, OnlyIn, of_one_sender, nothing_more}
 

@@ -22,4 +22,4 @@ pub mod CrossesTo
 pub mod Cuts
 pub mod Owners
 pub mod CutWindows
-pub mod Common
+pub mod Expected

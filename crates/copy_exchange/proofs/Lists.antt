@@ -1,5 +1,6 @@
 -- Lists, element by element.
-use Rattle.copy_exchange.proofs.Common.{◌≡◌, ℕ, zero, suc, ◌<◌, Bool, true, false, List, [], ◌∷◌, ◌++◌, length, get_or, refl, arith, Each}
+use Rattle.std.proofs.Common.{[], ◌≡◌, ℕ, zero, suc, ◌<◌, Bool, true, false, List, ◌∷◌, ◌++◌, length, get_or, refl, arith}
+use Rattle.std.specs.List.{AllByRecursion as Each}
 
 module _ {A : Type 0} (P : A → Type 0) where
   pub each_at : (xs : List A) (i : ℕ) (d : A) → Each P xs → i < length xs → P (get_or xs i d)

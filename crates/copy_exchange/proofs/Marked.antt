@@ -1,5 +1,15 @@
 -- The mark of a window is pushed, worker by worker.
-use Rattle.copy_exchange.proofs.Common.{◌≡◌, ◌≢◌, ℕ, ◌+◌, ◌<◌, ◌≤◌, ◌==◌, Bool, true, false, eqb, List, [], ◌∷◌, ◌++◌, length, get_or, slice_get, Option, Some, None, IfSome, refl, sym, ap, ◌∙◌, subst, ⊎_elim, arith, map-set_same, eqb_tells, get_or-set_same, get_or-set_other, length-map, slice_get-get_or, Mark, SenderState, InboxId, SenderView, after_pushing, Endpoint, IsOnInboxes, IsSenderOn, HasMarks, Stays, PushesMarks, sender_to, pushed_list, pushed_to, identity_of, MarksOne, pushed_with_mark}
+use Rattle.std.proofs.Common.{[], ◌≡◌, ◌≢◌, ℕ, ◌+◌, ◌<◌, ◌≤◌, ◌==◌, Bool, true, false, eqb, List, ◌∷◌, ◌++◌, length, get_or, slice_get, Option, Some, None, IfSome, refl, sym, ap, ◌∙◌, subst, ⊎_elim, arith}
+use Rattle.std.proofs.Math.Seq.{map-set_same}
+use Rattle.std.proofs.lemmas.Bool.Decides.{eqb_tells}
+use Rattle.std.proofs.lemmas.List.{get_or-set_same, get_or-set_other, length-map}
+use Rattle.std.proofs.lemmas.Option.{slice_get-get_or}
+use Rattle.copy_exchange.specs.Endpoints.{IsOnInboxes, IsSenderOn, HasMarks, Stays, PushesMarks, sender_to, pushed_list, pushed_to, identity_of}
+use Rattle.copy_exchange.specs.Steps.{MarksOne, pushed_with_mark}
+use Rattle.copy_exchange.specs.declared.endpoint.Endpoint.{Endpoint}
+use Rattle.copy_inbox.specs.Handles.{InboxId, SenderView, after_pushing}
+use Rattle.copy_inbox.specs.declared.items.Carried.TheVariants.{Mark}
+use Rattle.copy_inbox.specs.declared.rule.SenderState.{SenderState}
 use Rattle.copy_exchange.proofs.Delivered.{same_at, stays_on, with_sender}
 use Rattle.copy_exchange.proofs.AfterWindow.{same_identity}
 

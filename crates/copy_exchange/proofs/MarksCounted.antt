@@ -1,5 +1,19 @@
 -- One more item is counted.
-use Rattle.copy_exchange.proofs.Common.{◌≡◌, ◌≢◌, ℕ, ◌+◌, ◌<◌, ◌≤◌, ◌^◌, true, false, eqb, List, [], ◌∷◌, ◌++◌, length, set, get_or, refl, sym, ap, ◌∙◌, subst, ⊎_elim, arith, length-set, append-nil, append_assoc, Each, eqb_tells, get_or-set_same, get_or-set_other, RadioCopy, Carried, Packet, Mark, Item, TakerState, copies_of, part, TakerView, after_taking, MayBeTaken, state_with, part-append, part-here, part-else, Position, IsExpectedAt, IsUnexpected, AddsCopy, TakesExpected, TakesUnexpected, marks_of, AreTakersCounts, marks_in}
+use Rattle.std.proofs.Common.{[], ◌≡◌, ◌≢◌, ℕ, ◌+◌, ◌<◌, ◌≤◌, ◌^◌, true, false, eqb, List, ◌∷◌, ◌++◌, length, set, get_or, refl, sym, ap, ◌∙◌, subst, ⊎_elim, arith, length-set, append-nil, append_assoc, filter}
+use Rattle.std.proofs.lemmas.Bool.Decides.{eqb_tells}
+use Rattle.std.proofs.lemmas.List.{get_or-set_same, get_or-set_other}
+use Rattle.std.proofs.lemmas.List.Elements.{filter-append}
+use Rattle.copy_exchange.specs.Expected.{Position, expected_in, is_expected, TakesExpected}
+use Rattle.copy_exchange.specs.Marks.{marks_of, AreTakersCounts}
+use Rattle.copy_exchange.specs.Pushes.{marks_in}
+use Rattle.copy_inbox.proofs.Parts.{part-append, part-here, part-else}
+use Rattle.copy_inbox.specs.Handles.{TakerView, after_taking, MayBeTaken, state_with}
+use Rattle.copy_inbox.specs.Items.{copies_of, part}
+use Rattle.copy_inbox.specs.declared.items.Carried.{Carried}
+use Rattle.copy_inbox.specs.declared.items.Carried.TheVariants.{Packet, Mark}
+use Rattle.copy_inbox.specs.declared.items.Item.{Item}
+use Rattle.copy_inbox.specs.declared.rule.TakerState.{TakerState}
+use Rattle.radio_packet.specs.declared.copy.RadioCopy.{RadioCopy}
 use Rattle.copy_exchange.proofs.Lists.{each_join}
 use Rattle.copy_exchange.proofs.Parts.{copies-append}
 use Rattle.copy_exchange.proofs.Whole.{marks_append}
@@ -54,19 +68,20 @@ counts_mark marks d x n m c next is at =
 
 -- ---- the items taken so far, with one more item
 module _ (p : Position) where
+  pub expected-append : (xs ys : List Item) → expected_in p (xs ++ ys) ≡ expected_in p xs ++ expected_in p ys
+  expected-append xs ys = ap (filter (is_expected p)) (copies-append xs ys) ∙ filter-append (is_expected p) (copies_of xs) (copies_of ys)
+
   pub takes_none : (t : TakerView) → TakesExpected p t t []
   takes_none t = record {
     items = [];
     made = tt;
     taker = λ i. record { inbox = t.inbox; state = record { marked = t.state.marked; made = t.state.made; taken = sym (append-nil t.state.taken) i; gathered = t.state.gathered } };
     arrived = refl;
-    expected = tt;
   }
 
-  pub takes_more : (old mid new : TakerView) (x : Item) (copies more : List RadioCopy) → TakesExpected p old mid copies → x.sender < mid.state.made → new ≡ after_taking mid (x ∷ []) → AddsCopy p x copies more
+  pub takes_more : (old mid new : TakerView) (x : Item) (copies more : List RadioCopy) → TakesExpected p old mid copies → x.sender < mid.state.made → new ≡ after_taking mid (x ∷ []) → more ≡ copies ++ expected_in p (x ∷ [])
       → TakesExpected p old new more
-  takes_more old mid new x copies more h lt e a =
-      let P : List RadioCopy → Type 0 = λ l. Each (IsExpectedAt p) l in
+  takes_more old mid new x copies more h lt e adds =
       let same : mid.state.made ≡ old.state.made = ap (λ (t : TakerView). t.state.made) h.taker in
       let Q : ℕ → Type 0 = λ made. x.sender < made in
       record {
@@ -74,17 +89,5 @@ module _ (p : Position) where
         made = each_join (λ (y : Item). y.sender < old.state.made) h.items (x ∷ []) h.made (subst Q same lt, tt);
         taker = e ∙ (ap (λ t. after_taking t (x ∷ [])) h.taker
             ∙ (λ i. record { inbox = old.inbox; state = record { marked = old.state.marked; made = old.state.made; taken = append_assoc old.state.taken h.items (x ∷ []) i; gathered = old.state.gathered } }));
-        arrived = a.adds ∙ (ap (λ l. l ++ copies_of (x ∷ [])) h.arrived ∙ sym (copies-append h.items (x ∷ [])));
-        expected = subst P (sym a.adds) (each_join (IsExpectedAt p) copies (copies_of (x ∷ [])) h.expected a.expected);
+        arrived = adds ∙ (ap (λ l. l ++ expected_in p (x ∷ [])) h.arrived ∙ sym (expected-append h.items (x ∷ [])));
       }
-
--- ---- the last item carries a copy that isn't expected
-pub takes_unexpected : (p : Position) (old mid new : TakerView) (x : Item) (copies : List RadioCopy) → TakesExpected p old mid copies → new ≡ after_taking mid (x ∷ []) → IsUnexpected p x
-    → TakesUnexpected p old new
-takes_unexpected p old mid new x copies h e unexpected = record {
-  items = h.items;
-  last = x;
-  taker = e ∙ (ap (λ t. after_taking t (x ∷ [])) h.taker
-      ∙ (λ i. record { inbox = old.inbox; state = record { marked = old.state.marked; made = old.state.made; taken = append_assoc old.state.taken h.items (x ∷ []) i; gathered = old.state.gathered } }));
-  unexpected = unexpected;
-}

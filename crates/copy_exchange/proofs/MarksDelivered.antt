@@ -1,5 +1,10 @@
 -- The endpoint of a worker for a whole run, window by window.
-use Rattle.copy_exchange.proofs.Common.{◌≡◌, ℕ, List, map, ap, RadioCopy, InboxId, TakerView, Endpoint, IsOnInboxes, Stays, identity_of, TakesExpected, position}
+use Rattle.std.proofs.Common.{◌≡◌, ℕ, List, map, ap}
+use Rattle.copy_exchange.specs.Endpoints.{IsOnInboxes, Stays, identity_of}
+use Rattle.copy_exchange.specs.Expected.{TakesExpected, position}
+use Rattle.copy_exchange.specs.declared.endpoint.Endpoint.{Endpoint}
+use Rattle.copy_inbox.specs.Handles.{InboxId, TakerView}
+use Rattle.radio_packet.specs.declared.copy.RadioCopy.{RadioCopy}
 use Rattle.copy_exchange.proofs.Marked.{on_inboxes_stays}
 
 -- the identities of the senders are the same after items are taken

@@ -1,5 +1,17 @@
 -- The senders on an inbox, if endpoints are made once for the whole run.
-use Rattle.copy_exchange.proofs.Common.{◌≡◌, ◌≢◌, ℕ, zero, suc, ◌+◌, ◌<◌, ◌≤◌, ◌==◌, Bool, true, false, eqb, List, [], ◌∷◌, length, map, get_or, slice_get, Option, Some, None, refl, sym, ap, ◌∙◌, subst, ⊎_elim, arith, eq-eqb, ne_eqb, option_map, Each, AllZip, cons_option, filter_map, range_with_len, option_map_or, cases_lt, eqb_tells, length-map, get_or-range_with_len, length-range_with_len, get_or_from_slice_get, slice_get-get_or, slice_get-map, slice_get_within, TakerState, is_gathered, InboxId, SenderView, Endpoint, IsEndpoint, IsOnInboxes, IsSenderOn, Stays, AreOpen, Together, sender_to, senders_to}
+use Rattle.std.proofs.Common.{[], ◌≡◌, ◌≢◌, ℕ, zero, suc, ◌+◌, ◌<◌, ◌≤◌, ◌==◌, Bool, true, false, eqb, List, ◌∷◌, length, map, get_or, slice_get, Option, Some, None, refl, sym, ap, ◌∙◌, subst, ⊎_elim, arith, eq-eqb, ne_eqb, option_map}
+use Rattle.std.proofs.lemmas.Bool.{cases_lt}
+use Rattle.std.proofs.lemmas.Bool.Decides.{eqb_tells}
+use Rattle.std.proofs.lemmas.List.{length-map}
+use Rattle.std.proofs.lemmas.List.FromFn.{get_or-range_with_len, length-range_with_len}
+use Rattle.std.proofs.lemmas.Option.{get_or_from_slice_get, slice_get-get_or, slice_get-map, slice_get_within}
+use Rattle.std.specs.List.{AllByRecursion as Each, AllZip, cons_option, filter_map, range_with_len}
+use Rattle.std.specs.Option.{option_map_or}
+use Rattle.copy_exchange.specs.Endpoints.{IsEndpoint, IsOnInboxes, IsSenderOn, Stays, AreOpen, Together, sender_to, senders_to}
+use Rattle.copy_exchange.specs.declared.endpoint.Endpoint.{Endpoint}
+use Rattle.copy_inbox.specs.Gathered.{is_gathered}
+use Rattle.copy_inbox.specs.Handles.{InboxId, SenderView}
+use Rattle.copy_inbox.specs.declared.rule.TakerState.{TakerState}
 use Rattle.copy_exchange.proofs.Gathers.{numbers_of}
 use Rattle.copy_exchange.proofs.AfterWindow.{same_workers, each_staying, open_staying}
 use Rattle.copy_exchange.proofs.Lists.{each_at, each_map, heads}

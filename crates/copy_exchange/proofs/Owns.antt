@@ -1,5 +1,12 @@
 -- Each mote's copies come from the endpoint of its own worker.
-use Rattle.copy_exchange.proofs.Common.{◌≡◌, ◌≢◌, ◌⊎◌, ℕ, ◌+◌, ◌<◌, ◌==◌, Bool, true, false, List, [], ◌∷◌, ◌++◌, length, map, Option, Some, None, refl, sym, ap, ◌∙◌, inl, inr, arith, ne_eqb, eqb, ⊎_elim, Each, cons_option, flat_map, range_with_len, true≢false, eqb_tells, flat_map-cons, SenderView, Endpoint, DeliversOwn, sender_to, senders_to, delivered, delivered_to, pushed_by}
+use Rattle.std.proofs.Common.{[], ◌≡◌, ◌≢◌, ◌⊎◌, ℕ, ◌+◌, ◌<◌, ◌==◌, Bool, true, false, List, ◌∷◌, ◌++◌, length, map, Option, Some, None, refl, sym, ap, ◌∙◌, inl, inr, arith, ne_eqb, eqb, ⊎_elim}
+use Rattle.std.proofs.lemmas.Bool.{true≢false}
+use Rattle.std.proofs.lemmas.Bool.Decides.{eqb_tells}
+use Rattle.std.proofs.lemmas.List.Concat.{flat_map-cons}
+use Rattle.std.specs.List.{AllByRecursion as Each, cons_option, flat_map, range_with_len}
+use Rattle.copy_exchange.specs.Endpoints.{DeliversOwn, sender_to, senders_to, delivered, delivered_to, pushed_by}
+use Rattle.copy_exchange.specs.declared.endpoint.Endpoint.{Endpoint}
+use Rattle.copy_inbox.specs.Handles.{SenderView}
 use Rattle.copy_exchange.proofs.Parts.{from}
 use Rattle.copy_exchange.proofs.Gathers.{OneOf, copies_by}
 use Rattle.copy_exchange.proofs.Lists.{heads}

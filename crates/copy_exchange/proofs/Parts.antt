@@ -1,5 +1,15 @@
 -- The copies of one mote among the items of several senders.
-use Rattle.copy_exchange.proofs.Common.{◌≡◌, ◌≢◌, ℕ, Bool, true, false, cond, eqb, Option, Some, None, List, [], ◌∷◌, ◌++◌, filter, refl, sym, ap, ◌∙◌, ⊎_elim, eqb_tells, cons_option, filter-append, filter_map-append, RadioCopy, Carried, Item, copies_of, carried_copy, part, part-here, part-else, is_from_sender, copies_in}
+use Rattle.std.proofs.Common.{[], ◌≡◌, ◌≢◌, ℕ, Bool, true, false, cond, eqb, Option, Some, None, List, ◌∷◌, ◌++◌, filter, refl, sym, ap, ◌∙◌, ⊎_elim, subst}
+use Rattle.std.proofs.lemmas.Bool.Decides.{eqb_tells}
+use Rattle.std.proofs.lemmas.List.Elements.{filter-append, filter_map-append}
+use Rattle.std.specs.List.{cons_option, AllByRecursion as Each}
+use Rattle.copy_exchange.specs.Takers.{copies_in}
+use Rattle.copy_inbox.proofs.Parts.{part-here, part-else}
+use Rattle.copy_inbox.specs.Items.{copies_of, carried_copy, part}
+use Rattle.copy_inbox.specs.declared.items.Carried.{Carried}
+use Rattle.copy_inbox.specs.declared.items.Item.{Item}
+use Rattle.radio_packet.specs.declared.copy.RadioCopy.{RadioCopy}
+use Rattle.window_laws.specs.Windows.{is_from_sender}
 
 -- the copies of mote s
 abbrev pub from : ℕ → List RadioCopy → List RadioCopy
@@ -57,6 +67,27 @@ of_one_sender s j (x ∷ xs) h =
     let none : from s (cons_option p (copies_in (part x.sender xs))) ≡ [] = (ap (λ l. from s (copies_in l)) (sym (part-here x.sender x xs refl)) ∙ h x.sender t.1) in
     option_none s p (copies_in (part x.sender xs)) (copies_of xs) none ∙ (r ∙ ap (λ l. from s (copies_in l)) (sym (part-else j x xs t.1))))
     (eqb_tells x.sender j)
+
+-- ---- a property of each copy
+module _ (P : RadioCopy → Type 0) where
+  first_each : (o : Option RadioCopy) (xs ys : List RadioCopy) → Each P (cons_option o xs) → Each P ys → Each P (cons_option o ys)
+  first_each None xs ys h k = k
+  first_each (Some c) xs ys h k = (h.0, k)
+
+  tail_each : (o : Option RadioCopy) (xs : List RadioCopy) → Each P (cons_option o xs) → Each P xs
+  tail_each None xs h = h
+  tail_each (Some c) xs h = h.1
+
+  -- each sender's copies have it, so all have it
+  pub each_part : (items : List Item) → ((s : ℕ) → Each P (copies_in (part s items))) → Each P (copies_of items)
+  each_part [] h = tt
+  each_part (x ∷ xs) h =
+      let Q : List Carried → Type 0 = λ l. Each P (copies_in l) in
+      first_each (carried_copy x.what) (copies_in (part x.sender xs)) (copies_of xs) (subst Q (part-here x.sender x xs refl) (h x.sender))
+      (each_part xs (λ s. ⊎_elim
+      (λ (t : (eqb x.sender s ≡ true) × (x.sender ≡ s)). tail_each (carried_copy x.what) (copies_in (part s xs)) (subst Q (part-here s x xs t.1) (h s)))
+      (λ (t : (eqb x.sender s ≡ false) × (x.sender ≢ s)). subst Q (part-else s x xs t.1) (h s))
+      (eqb_tells x.sender s)))
 
 -- ---- if a prefix is the whole list, nothing follows it
 pub nothing_more : (xs ys : List Carried) → xs ++ ys ≡ xs → ys ≡ []

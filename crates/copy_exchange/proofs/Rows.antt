@@ -1,5 +1,10 @@
 -- One worker's senders, inbox by inbox.
-use Rattle.copy_exchange.proofs.Common.{◌≡◌, ◌≢◌, ℕ, zero, suc, ◌+◌, ◌<◌, ◌≤◌, ◌==◌, Bool, true, false, eqb, List, [], ◌∷◌, length, set, get_or, drop, add-one, slice_index_or, Option, Some, None, IfSome, refl, sym, ap, ◌∙◌, subst, ⊎_elim, arith, length-set, cases_lt, eqb_tells, get_or-set_same, get_or-set_other, InboxId, TakerView, SenderView, AreTakersOf, AreSendersOn, GathersRow, AgreesWithSender, Opens, gather_into, at_place, opened_taker, opened_sender}
+use Rattle.std.proofs.Common.{[], ◌≡◌, ◌≢◌, ℕ, zero, suc, ◌+◌, ◌<◌, ◌≤◌, ◌==◌, Bool, true, false, eqb, List, ◌∷◌, length, set, get_or, drop, add-one, slice_index_or, Option, Some, None, IfSome, refl, sym, ap, ◌∙◌, subst, ⊎_elim, arith, length-set}
+use Rattle.std.proofs.lemmas.Bool.{cases_lt}
+use Rattle.std.proofs.lemmas.Bool.Decides.{eqb_tells}
+use Rattle.std.proofs.lemmas.List.{get_or-set_same, get_or-set_other}
+use Rattle.copy_exchange.specs.Steps.{AreTakersOf, AreSendersOn, GathersRow, AgreesWithSender, Opens, gather_into, at_place, opened_taker, opened_sender}
+use Rattle.copy_inbox.specs.Handles.{InboxId, TakerView, SenderView}
 use Rattle.copy_exchange.proofs.Lists.{same_read}
 
 -- the senders at the first k places are gathered

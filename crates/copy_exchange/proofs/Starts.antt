@@ -1,5 +1,20 @@
 -- The endpoints at the start of a window.
-use Rattle.copy_exchange.proofs.Common.{◌≡◌, ℕ, zero, suc, ◌+◌, ◌<◌, ◌≤◌, ◌==◌, Bool, true, false, List, [], ◌∷◌, ◌++◌, length, get_or, slice_get, Option, Some, None, refl, sym, ap, ◌∙◌, subst, ⊎_elim, arith, append-nil, length-append, add-zero, map-id, Each, AllZip, cons_option, range_with_len, zip, cases_lt, map-append, filter_map-append, map-range_with_len_more, get_or_from_slice_get, slice_get-get_or, slice_get_past, Gathered, is_gathered, make_taker_state, make_sender_state, InboxId, TakerView, SenderView, AllGathered, Endpoint, copies_in, IsOrderly, IsEndpoint, IsSenderOn, AreOpen, Together, StartsAs, HasMarks, HasPushedNothing, senders_to, pushed_by, pushed_list, IsSettled, Settled, AreTakersOf, Opens, at_place, opened_taker, opened_sender}
+use Rattle.std.proofs.Common.{[], ◌≡◌, ℕ, zero, suc, ◌+◌, ◌<◌, ◌≤◌, ◌==◌, Bool, true, false, List, ◌∷◌, ◌++◌, length, get_or, slice_get, Option, Some, None, refl, sym, ap, ◌∙◌, subst, ⊎_elim, arith, append-nil, length-append, add-zero, map-id}
+use Rattle.std.proofs.lemmas.Bool.{cases_lt}
+use Rattle.std.proofs.lemmas.List.{map-append}
+use Rattle.std.proofs.lemmas.List.Elements.{filter_map-append}
+use Rattle.std.proofs.lemmas.List.FromFn.{map-range_with_len_more}
+use Rattle.std.proofs.lemmas.Option.{get_or_from_slice_get, slice_get-get_or, slice_get_past}
+use Rattle.std.specs.List.{AllByRecursion as Each, AllZip, cons_option, range_with_len, zip}
+use Rattle.copy_exchange.specs.Endpoints.{IsEndpoint, IsSenderOn, AreOpen, Together, StartsAs, HasMarks, HasPushedNothing, senders_to, pushed_by, pushed_list}
+use Rattle.copy_exchange.specs.Inboxes.{IsSettled, Settled}
+use Rattle.copy_exchange.specs.Steps.{AreTakersOf, Opens, at_place, opened_taker, opened_sender}
+use Rattle.copy_exchange.specs.Takers.{copies_in, IsOrderly}
+use Rattle.copy_exchange.specs.declared.endpoint.Endpoint.{Endpoint}
+use Rattle.copy_inbox.specs.Gathered.{is_gathered}
+use Rattle.copy_inbox.specs.Handles.{InboxId, TakerView, SenderView, AllGathered}
+use Rattle.copy_inbox.specs.Views.{make_taker_state, make_sender_state}
+use Rattle.copy_inbox.specs.declared.rule.Gathered.{Gathered}
 use Rattle.fork_join.proofs.Zips.{zip_length}
 use Rattle.copy_exchange.proofs.Lists.{each_at, each_map, each_more, same_read}
 use Rattle.copy_exchange.proofs.Gathers.{numbers_of, gathered_more}

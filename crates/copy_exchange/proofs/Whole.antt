@@ -1,5 +1,11 @@
 -- A prefix with a mark of each window is the list of all items pushed.
-use Rattle.copy_exchange.proofs.Common.{◌≡◌, ℕ, zero, suc, ◌+◌, Bool, true, false, ◌&&◌, List, [], ◌∷◌, ◌++◌, map, refl, sym, ap, ◌∙◌, arith, append_assoc, append-nil, and_parts, false≢true, RadioCopy, Carried, Packet, Mark, marks_in, pushes, AllIsTaken}
+use Rattle.std.proofs.Common.{[], ◌≡◌, ℕ, zero, suc, ◌+◌, Bool, true, false, ◌&&◌, List, ◌∷◌, ◌++◌, map, refl, sym, ap, ◌∙◌, arith, append_assoc, append-nil}
+use Rattle.std.proofs.lemmas.Bool.{and_parts, false≢true}
+use Rattle.copy_exchange.specs.Laws.{AllIsTaken}
+use Rattle.copy_exchange.specs.Pushes.{marks_in, pushes}
+use Rattle.copy_inbox.specs.declared.items.Carried.{Carried}
+use Rattle.copy_inbox.specs.declared.items.Carried.TheVariants.{Packet, Mark}
+use Rattle.radio_packet.specs.declared.copy.RadioCopy.{RadioCopy}
 
 pub marks_append : (xs ys : List Carried) → marks_in (xs ++ ys) ≡ marks_in xs + marks_in ys
 marks_append [] ys = omega arith

@@ -1,5 +1,19 @@
 -- The endpoints and the takers in a window, and in the next one.
-use Rattle.copy_exchange.proofs.Common.{◌≡◌, ℕ, ◌==◌, Bool, true, false, cond, List, [], ◌∷◌, ◌++◌, filter, refl, sym, ap, ◌∙◌, subst, arith, RadioCopy, Item, TakerState, copies_of, part, Whole, make_taker_state, InboxId, TakerView, PacketsLeft, part-not_nil, Endpoint, is_from_sender, IsOrderly, is_to, IsEndpoint, Collects, Delivers, StartsAs, Returns, IsFresh, IsSettled}
+use Rattle.std.proofs.Common.{[], ◌≡◌, ℕ, ◌==◌, Bool, true, false, cond, List, ◌∷◌, ◌++◌, filter, refl, sym, ap, ◌∙◌, subst, arith}
+use Rattle.copy_exchange.specs.Crossed.{is_to}
+use Rattle.copy_exchange.specs.Endpoints.{IsEndpoint, Collects, Delivers, StartsAs, Returns}
+use Rattle.copy_exchange.specs.Inboxes.{IsFresh, IsSettled}
+use Rattle.copy_exchange.specs.Takers.{IsOrderly}
+use Rattle.copy_exchange.specs.declared.endpoint.Endpoint.{Endpoint}
+use Rattle.copy_inbox.proofs.Parts.{part-not_nil}
+use Rattle.copy_inbox.specs.Gathered.{Whole}
+use Rattle.copy_inbox.specs.Handles.{InboxId, TakerView, PacketsLeft}
+use Rattle.copy_inbox.specs.Items.{copies_of, part}
+use Rattle.copy_inbox.specs.Views.{make_taker_state}
+use Rattle.copy_inbox.specs.declared.items.Item.{Item}
+use Rattle.copy_inbox.specs.declared.rule.TakerState.{TakerState}
+use Rattle.radio_packet.specs.declared.copy.RadioCopy.{RadioCopy}
+use Rattle.window_laws.specs.Windows.{is_from_sender}
 use Rattle.copy_exchange.proofs.Delivered.{stays_on}
 use Rattle.copy_exchange.proofs.Parts.{from}
 

@@ -20,5 +20,5 @@ pub use cut::Cut;
 pub use endpoint::Endpoint;
 pub use inboxes::{known, make_inboxes, pair_inboxes, split_pairs};
 pub use own::is_own;
-pub use take::{MarkError, MarkTaker, WindowPosition};
+pub use take::{MarkTaker, WindowPosition};
 pub use window::{endpoints, gather_back, gather_window};

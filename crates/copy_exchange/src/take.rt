@@ -1,53 +1,21 @@
 //! Takes items until the marks of a window have arrived.
 
-ghost use Rattle.std.specs.Prelude.{◌≡◌, ◌↔◌, true, [], IfOk, IfErr, OnOk, IsTrue};
+ghost use Rattle.std.specs.Prelude.{◌≡◌, ◌≢◌, ◌∷◌, ◌++◌, true, [], filter, IfOk, IfErr, OnOk};
 ghost use Rattle.copy_inbox.specs.declared.rule.TakerState.{TakerState};
 ghost use Rattle.copy_inbox.specs.Handles.{MayBeTaken, state_with};
-ghost use Rattle.copy_exchange.specs.declared.take.MarkError.TheVariants.{Stopped, Unexpected};
-ghost use Rattle.copy_exchange.specs.Expected.{AddsCopy, IsExpectedAt, Refuses, TakesExpected, TakesUnexpected};
-ghost use Rattle.copy_exchange.specs.Expected.{position_of};
+ghost use Rattle.copy_exchange.specs.Expected.{TakesExpected, expected_in, is_expected, position_of};
 ghost use Rattle.copy_exchange.specs.Marks.{AreTakersCounts, AllPast};
+ghost use Rattle.fork_join.specs.declared.work.WorkerError.TheVariants.{Stopped, Thread};
 
 use crate::heard::{all_past, no_marks};
 use crate::is_own;
 use crate::wait::{Waiting, wait};
 use copy_inbox::{Carried, Inbox, Item, Taker};
-use fork_join::Watch;
+use fork_join::{Watch, WorkerError};
 use radio_packet::RadioCopy;
-use std::alloc::{AllocError, AllocFailed, Global};
+use std::alloc::{AllocError, Global};
 use std::sync::Wait;
 use std::sync::ledger::Ledger;
-
-/// The reason why a worker stopped taking items.
-#[derive(Clone, Copy, Debug, PartialEq, Eq)]
-pub enum MarkError {
-    /// Out of memory: an allocation failed.
-    Memory = 1,
-    /// The flag was set: another worker failed, or wasn't started.
-    Stopped = 2,
-    /// A copy arrived that isn't expected. This can't happen in a run in which all workers follow the protocol.
-    Unexpected = 3,
-}
-
-impl From<AllocError> for MarkError {
-    ghost use Rattle.copy_exchange.specs.declared.take.MarkError.{MarkError};
-
-    ghost from_gives = { λ _ e. e ≡ MarkError.Memory };
-
-    fn from(_error: AllocError) -> Self {
-        MarkError::Memory
-    }
-}
-
-impl<T: Drop> From<AllocFailed<T>> for MarkError {
-    ghost use Rattle.copy_exchange.specs.declared.take.MarkError.{MarkError};
-
-    ghost from_gives = { λ _ e. e ≡ MarkError.Memory };
-
-    fn from(_error: AllocFailed<T>) -> Self {
-        MarkError::Memory
-    }
-}
 
 /// The position of a worker between two windows. Definitions call it `Position`.
 #[derive(Clone, Copy)]
@@ -62,7 +30,7 @@ pub struct WindowPosition<'a> {
 /// Returns whether the copy is expected: it is for a mote of the worker, isn't from one of the worker's motes, and
 /// doesn't arrive before the worker's next window begins.
 fn is_expected(window_position: &WindowPosition<'_>, copy: RadioCopy) -> bool
-    ensures decides { IsTrue result ↔ IsExpectedAt (position_of window_position.now) copy }
+    ensures value { result ≡ is_expected (position_of window_position.now) copy }
 {
     if !is_own(window_position.owners, window_position.worker, copy.to) {
         return false;
@@ -73,29 +41,37 @@ fn is_expected(window_position: &WindowPosition<'_>, copy: RadioCopy) -> bool
     window_position.from <= copy.at
 }
 
-/// Handles an item that was taken. If the item is a mark, the function counts it. If the item is an expected copy, the
-/// function appends it to the copies that have arrived.
+/// Appends a copy that was taken to those that have arrived, if it is expected.
+fn add_expected(
+    window_position: &WindowPosition<'_>,
+    arrived: &mut Vec<RadioCopy>,
+    copy: RadioCopy,
+) -> Result<(), AllocError>
+    ensures added { OnOk result (arrived.new.items ≡ arrived.old.items
+        ++ filter (is_expected (position_of window_position.now)) (copy ∷ [])) }
+{
+    if is_expected(window_position, copy) {
+        arrived.push(copy)?;
+    }
+    Ok(())
+}
+
+/// Handles an item that was taken: counts a mark, and appends an expected copy to those that have arrived.
 fn record_item(
     window_position: &WindowPosition<'_>,
     marks: &mut Vec<u64>,
     arrived: &mut Vec<RadioCopy>,
     item: Item,
-) -> Result<(), MarkError>
+) -> Result<(), AllocError>
     requires is_next { (d : TakerState) × AreTakersCounts marks.old.items d × MayBeTaken d item }
     ensures counts { OnOk result
         ((d : TakerState) → AreTakersCounts marks.old.items d → MayBeTaken d item
         → AreTakersCounts marks.new.items (state_with d item)) }
     ensures arrived { OnOk result
-        (AddsCopy (position_of window_position.now) item arrived.old.items arrived.new.items) }
-    ensures refused { IfErr result (Refuses (position_of window_position.now) item) }
+        (arrived.new.items ≡ arrived.old.items ++ expected_in (position_of window_position.now) (item ∷ [])) }
 {
     match item.what {
-        Carried::Packet(copy) => {
-            if !is_expected(window_position, copy) {
-                return Err(MarkError::Unexpected);
-            }
-            arrived.push(copy)?;
-        }
+        Carried::Packet(copy) => add_expected(window_position, arrived, copy)?,
         Carried::Mark(_) => marks[item.sender as usize] += 1,
     }
     Ok(())
@@ -137,13 +113,12 @@ impl MarkTaker {
     }
 
     /// Takes items until the mark of the window numbered `window`, counted from 0, has arrived from each sender: that
-    /// is, until more than `window` marks have arrived from each sender. It returns the copies among the items. It also
-    /// takes items of a later window that arrive earlier. `watch` reads the flag that a failing worker sets.
+    /// is, until more than `window` marks have arrived from each sender. It returns the expected copies among the items,
+    /// which are all, if the other workers follow the protocol. It also takes items of a later window that arrive
+    /// earlier. `watch` reads the flag that a failing worker sets.
     ///
     /// # Errors
-    /// `Memory` if an allocation fails; `Stopped` if the flag is set when the call looks at it; `Unexpected` if a copy
-    /// arrived that isn't from a mote of another worker to a mote of this worker, or that arrives before this worker's
-    /// next window.
+    /// `Memory` if an allocation fails; `Stopped` if the flag is set when the call looks at it.
     pub fn take_window<R: Wait, L: Ledger>(
         &mut self,
         rt: &R,
@@ -153,7 +128,7 @@ impl MarkTaker {
         watch: &mut Watch<'_, L>,
         window_position: &WindowPosition<'_>,
         window: u64,
-    ) -> Result<Vec<RadioCopy>, MarkError>
+    ) -> Result<Vec<RadioCopy>, WorkerError>
         requires of_inbox { taker.old.inbox ≡ inbox.now }
         requires counts { AreTakersCounts self.old.counts.items taker.old.state }
         ensures took { IfOk result
@@ -161,8 +136,7 @@ impl MarkTaker {
         ensures counts { OnOk result (AreTakersCounts self.new.counts.items taker.new.state) }
         ensures marked { OnOk result (AllPast window self.new.counts.items) }
         ensures stopped { IfErr result (λ error. error ≡ Stopped → watch.new.seen ≡ true) }
-        ensures unexpected { IfErr result
-            (λ error. error ≡ Unexpected → TakesUnexpected (position_of window_position.now) taker.old taker.new) }
+        ensures refused { IfErr result (λ error. error ≢ Thread) }
     {
         let mut arrived = Vec::new(alloc);
         self.waiting.begin();

@@ -1,12 +1,11 @@
 //! The wait of a worker for the marks of a window.
 
 ghost use Rattle.std.specs.Prelude.{◌≡◌, true, IfErr, OnErr};
-ghost use Rattle.copy_exchange.specs.declared.take.MarkError.TheVariants.{Stopped};
+ghost use Rattle.fork_join.specs.declared.work.WorkerError.TheVariants.{Stopped};
 
 use crate::heard::marks_wanted;
-use crate::take::MarkError;
 use copy_inbox::Inbox;
-use fork_join::Watch;
+use fork_join::{Watch, WorkerError};
 use std::sync::Wait;
 use std::sync::ledger::Ledger;
 use std::time::Duration;
@@ -60,12 +59,12 @@ pub fn wait<R: Wait, L: Ledger>(
     marks: &[u64],
     window: u64,
     waiting: &mut Waiting,
-) -> Result<(), MarkError>
+) -> Result<(), WorkerError>
     ensures seen { OnErr result (watch.new.seen ≡ true) }
     ensures stopped { IfErr result (λ error. error ≡ Stopped) }
 {
     if watch.is_set(rt) {
-        return Err(MarkError::Stopped);
+        return Err(WorkerError::Stopped);
     }
     if waiting.left > 0 {
         waiting.left -= 1;

@@ -1,5 +1,16 @@
 -- The number of known items is the number of items in the queue from gathered senders.
-use Rattle.copy_inbox.proofs.Common.{◌≡◌, ◌≢◌, ℕ, ◌+◌, ◌≤◌, ◌<◌, Bool, true, false, cond, eqb, Option, List, [], ◌∷◌, ◌++◌, length, drop, refl, sym, ap, ◌∙◌, ⊎_elim, arith, sum_by, append-nil, subst, Each, eqb_tells, sum_by-cons, drop-append_seam, Carried, Item, Gathered, TakerState, part, Packets, OfMade, is_gathered, Apart, untaken_of, known_of, Later, TookFronts, Whole, Behind, Sound}
+use Rattle.std.proofs.Common.{◌≡◌, ◌≢◌, ℕ, ◌+◌, ◌≤◌, ◌<◌, Bool, true, false, cond, eqb, Option, List, [], ◌∷◌, ◌++◌, length, drop, refl, sym, ap, ◌∙◌, ⊎_elim, arith, sum_by, append-nil, subst}
+use Rattle.std.proofs.Math.Seq.{drop-append_seam}
+use Rattle.std.proofs.lemmas.Bool.Decides.{eqb_tells}
+use Rattle.std.proofs.lemmas.List.Sums.{sum_by-cons}
+use Rattle.std.specs.List.{AllByRecursion as Each}
+use Rattle.copy_inbox.specs.Gathered.{is_gathered, Apart, untaken_of, known_of, Later, TookFronts, Whole}
+use Rattle.copy_inbox.specs.Items.{part, Packets, OfMade}
+use Rattle.copy_inbox.specs.Rule.{Behind, Sound}
+use Rattle.copy_inbox.specs.declared.items.Carried.{Carried}
+use Rattle.copy_inbox.specs.declared.items.Item.{Item}
+use Rattle.copy_inbox.specs.declared.rule.Gathered.{Gathered}
+use Rattle.copy_inbox.specs.declared.rule.TakerState.{TakerState}
 use Rattle.copy_inbox.proofs.Parts.{part-append, part-here, part-else, part-nil_left}
 use Rattle.copy_inbox.proofs.Moves.{each_map}
 

@@ -1,5 +1,13 @@
 -- A drain, item by item.
-use Rattle.copy_inbox.proofs.Common.{◌≡◌, ◌≢◌, ℕ, ◌+◌, ◌≤◌, Bool, true, false, cond, List, [], ◌∷◌, ◌++◌, length, map, sym, ap, ◌∙◌, subst, arith, length-append, append_assoc, true≢false, map-append, RadioCopy, Packet, Item, what_of, ArePackets, part, known_of, is_gathered, Later, NoOthers, TakerView, after_taking, TakesPackets, MayBeTaken}
+use Rattle.std.proofs.Common.{◌≡◌, ◌≢◌, ℕ, ◌+◌, ◌≤◌, Bool, true, false, cond, List, [], ◌∷◌, ◌++◌, length, map, sym, ap, ◌∙◌, subst, arith, length-append, append_assoc}
+use Rattle.std.proofs.lemmas.Bool.{true≢false}
+use Rattle.std.proofs.lemmas.List.{map-append}
+use Rattle.copy_inbox.specs.Gathered.{known_of, is_gathered, Later, NoOthers}
+use Rattle.copy_inbox.specs.Handles.{TakerView, after_taking, TakesPackets, MayBeTaken}
+use Rattle.copy_inbox.specs.Items.{what_of, ArePackets, part}
+use Rattle.copy_inbox.specs.declared.items.Carried.TheVariants.{Packet}
+use Rattle.copy_inbox.specs.declared.items.Item.{Item}
+use Rattle.radio_packet.specs.declared.copy.RadioCopy.{RadioCopy}
 use Rattle.copy_inbox.proofs.Parts.{part-snoc_else}
 
 abbrev pub known_to : TakerView → ℕ

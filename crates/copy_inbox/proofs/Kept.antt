@@ -1,5 +1,19 @@
 -- The counts that a taker keeps after it has dropped the first ones.
-use Rattle.copy_inbox.proofs.Common.{◌≡◌, ◌≢◌, ℕ, zero, suc, ◌+◌, ◌-◌, ◌^◌, ◌≤◌, ◌<◌, Bool, true, false, cond, eqb, List, [], ◌∷◌, ◌++◌, length, drop, set, get_or, refl, sym, ap, ◌∙◌, subst, ⊎_elim, arith, length-append, cases_lt, true≢false, eqb_tells, drop-set-lt, drop-set-add, get_or-drop, length-drop, drop-append-le, length-set, bool_byte, Item, Count, View, part, is_gathered, known_of, with_one_more, with_gathered, with_taken, SeenBy, taker_state_in, sender_state_in, IsSender, KeepsSenderCounts, CountsTaken, Forgets}
+use Rattle.std.proofs.Common.{◌≡◌, ◌≢◌, ℕ, zero, suc, ◌+◌, ◌-◌, ◌^◌, ◌≤◌, ◌<◌, Bool, true, false, cond, eqb, List, [], ◌∷◌, ◌++◌, length, drop, set, get_or, refl, sym, ap, ◌∙◌, subst, ⊎_elim, arith, length-append}
+use Rattle.std.proofs.Math.ListN.{length-set}
+use Rattle.std.proofs.lemmas.Bool.{cases_lt, true≢false}
+use Rattle.std.proofs.lemmas.Bool.Decides.{eqb_tells}
+use Rattle.std.proofs.lemmas.List.{drop-set-lt, drop-set-add, get_or-drop, length-drop, drop-append-le}
+use Rattle.copy_inbox.specs.Gathered.{is_gathered, known_of}
+use Rattle.copy_inbox.specs.Handles.{taker_state_in, sender_state_in, IsSender}
+use Rattle.copy_inbox.specs.Items.{part}
+use Rattle.copy_inbox.specs.Kept.{KeepsSenderCounts, CountsTaken, Forgets}
+use Rattle.copy_inbox.specs.Rule.{SeenBy}
+use Rattle.copy_inbox.specs.Views.{with_one_more, with_gathered, with_taken}
+use Rattle.copy_inbox.specs.declared.count.Count.{Count}
+use Rattle.copy_inbox.specs.declared.items.Item.{Item}
+use Rattle.copy_inbox.specs.declared.rule.View.{View}
+use mir.Val.{bool_byte}
 use Rattle.copy_inbox.proofs.Takers.{count, byte_is, more_as, took_as, joined_state, joined_is, joined_seen, joined_leaves, joined_index, next_below, next_known, next_kept, next_fits}
 
 -- ---- the count of a sender that is still counted

@@ -4,4 +4,3 @@ pub mod Kept
 pub mod Moves
 pub mod Parts
 pub mod Takers
-pub mod Common

@@ -1,5 +1,18 @@
 -- Each step preserves the rule.
-use Rattle.copy_inbox.proofs.Common.{Bool, ◌≡◌, ◌≢◌, ◌⊎◌, ℕ, zero, suc, ◌+◌, ◌^◌, ◌≤◌, ◌<◌, true, false, cond, eqb, Option, Some, None, List, [], ◌∷◌, ◌++◌, length, set, refl, sym, ap, ◌∙◌, subst, inl, inr, ⊎_elim, arith, eq-eqb, ne_eqb, length-append, Each, eqb_tells, Carried, Item, Gathered, TakerState, SenderState, View, Taking, Sending, Spent, part, carries_packet, is_gathered, make_taker_state, make_sender_state, make_gathered, new_taker, with_one_more, next_sender, with_marks, no_sender, with_gathered, with_pushed, PassFits, Sound, InboxRule, SeenBy, Took, Pushed}
+use Rattle.std.proofs.Common.{Bool, ◌≡◌, ◌≢◌, ◌⊎◌, ℕ, zero, suc, ◌+◌, ◌^◌, ◌≤◌, ◌<◌, true, false, cond, eqb, Option, Some, None, List, [], ◌∷◌, ◌++◌, length, set, refl, sym, ap, ◌∙◌, subst, inl, inr, ⊎_elim, arith, eq-eqb, ne_eqb, length-append}
+use Rattle.std.proofs.lemmas.Bool.Decides.{eqb_tells}
+use Rattle.std.specs.List.{AllByRecursion as Each}
+use Rattle.copy_inbox.specs.Gathered.{is_gathered}
+use Rattle.copy_inbox.specs.Items.{part, carries_packet}
+use Rattle.copy_inbox.specs.Rule.{PassFits, Sound, InboxRule, SeenBy, Took, Pushed}
+use Rattle.copy_inbox.specs.Views.{make_taker_state, make_sender_state, make_gathered, new_taker, with_one_more, next_sender, with_marks, no_sender, with_gathered, with_pushed}
+use Rattle.copy_inbox.specs.declared.items.Carried.{Carried}
+use Rattle.copy_inbox.specs.declared.items.Item.{Item}
+use Rattle.copy_inbox.specs.declared.rule.Gathered.{Gathered}
+use Rattle.copy_inbox.specs.declared.rule.SenderState.{SenderState}
+use Rattle.copy_inbox.specs.declared.rule.TakerState.{TakerState}
+use Rattle.copy_inbox.specs.declared.rule.View.{View}
+use Rattle.copy_inbox.specs.declared.rule.View.TheVariants.{Taking, Sending, Spent}
 use mathlib.Core.Option.{some, some-injective, some-ne-none}
 use lib.ListN.{get_elem?}
 use Rattle.crossbeam_queue.specs.Fifo.{Pushes, Pops, Forks, Merges, Learns}

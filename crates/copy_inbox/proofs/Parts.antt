@@ -1,5 +1,13 @@
 -- The items of one sender in a list.
-use Rattle.copy_inbox.proofs.Common.{◌≡◌, ◌≢◌, ℕ, ◌≤◌, Bool, cond, eqb, List, [], ◌∷◌, ◌++◌, map, filter, refl, sym, ap, ◌∙◌, eq-eqb, ne_eqb, append-nil, append_assoc, cons_option, map-append, RadioCopy, Carried, Item, Packet, what_of, carried_copy, copies_of, ArePackets, part, Behind}
+use Rattle.std.proofs.Common.{◌≡◌, ◌≢◌, ℕ, ◌≤◌, Bool, cond, eqb, List, [], ◌∷◌, ◌++◌, map, filter, refl, sym, ap, ◌∙◌, eq-eqb, ne_eqb, append-nil, append_assoc}
+use Rattle.std.proofs.lemmas.List.{map-append}
+use Rattle.std.specs.List.{cons_option}
+use Rattle.copy_inbox.specs.Items.{what_of, carried_copy, copies_of, ArePackets, part}
+use Rattle.copy_inbox.specs.Rule.{Behind}
+use Rattle.copy_inbox.specs.declared.items.Carried.{Carried}
+use Rattle.copy_inbox.specs.declared.items.Carried.TheVariants.{Packet}
+use Rattle.copy_inbox.specs.declared.items.Item.{Item}
+use Rattle.radio_packet.specs.declared.copy.RadioCopy.{RadioCopy}
 use Rattle.std.proofs.lemmas.List.Elements.{filter-append}
 
 pub part-append : (s : ℕ) (xs ys : List Item) → part s (xs ++ ys) ≡ part s xs ++ part s ys

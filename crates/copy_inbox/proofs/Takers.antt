@@ -1,5 +1,25 @@
 -- The effect of each call on a taker.
-use Rattle.copy_inbox.proofs.Common.{◌≡◌, ◌≢◌, ℕ, ◌+◌, ◌-◌, ◌^◌, ◌≤◌, ◌<◌, Bool, true, false, cond, eqb, Option, List, [], ◌∷◌, ◌++◌, length, set, get_or, refl, sym, ap, ◌∙◌, subst, ⊎_elim, arith, eq-eqb, ne_eqb, length-append, append-nil, inl, inr, Each, eqb_tells, get_or_append_left, get_or-set_same, get_or-set_other, get_or-append_seam, length-set, length-drop, sum_by-cons, bool_byte, Carried, Item, Count, Gathered, TakerState, SenderState, View, Taking, Sending, part, carries_packet, Packets, HasPrefix, is_gathered, untaken_of, known_of, make_taker_state, make_gathered, with_one_more, with_gathered, with_taken, Sound, SeenBy, taker_state_in, sender_state_in, IsTaker, IsSender, MayBeTaken, AllGathered, PacketsLeft, TakesPackets, state_with}
+use Rattle.std.proofs.Common.{◌≡◌, ◌≢◌, ℕ, ◌+◌, ◌-◌, ◌^◌, ◌≤◌, ◌<◌, Bool, true, false, cond, eqb, Option, List, [], ◌∷◌, ◌++◌, length, set, get_or, refl, sym, ap, ◌∙◌, subst, ⊎_elim, arith, eq-eqb, ne_eqb, length-append, append-nil, inl, inr}
+use Rattle.std.proofs.Math.ListN.{length-set}
+use Rattle.std.proofs.Math.Seq.{get_or-append_seam}
+use Rattle.std.proofs.lemmas.Bool.Decides.{eqb_tells}
+use Rattle.std.proofs.lemmas.List.{get_or_append_left, get_or-set_same, get_or-set_other, length-drop}
+use Rattle.std.proofs.lemmas.List.Sums.{sum_by-cons}
+use Rattle.std.specs.List.{AllByRecursion as Each}
+use Rattle.copy_inbox.specs.Gathered.{is_gathered, untaken_of, known_of}
+use Rattle.copy_inbox.specs.Handles.{taker_state_in, sender_state_in, IsTaker, IsSender, MayBeTaken, AllGathered, PacketsLeft, TakesPackets, state_with}
+use Rattle.copy_inbox.specs.Items.{part, carries_packet, Packets, HasPrefix}
+use Rattle.copy_inbox.specs.Rule.{Sound, SeenBy}
+use Rattle.copy_inbox.specs.Views.{make_taker_state, make_gathered, with_one_more, with_gathered, with_taken}
+use Rattle.copy_inbox.specs.declared.count.Count.{Count}
+use Rattle.copy_inbox.specs.declared.items.Carried.{Carried}
+use Rattle.copy_inbox.specs.declared.items.Item.{Item}
+use Rattle.copy_inbox.specs.declared.rule.Gathered.{Gathered}
+use Rattle.copy_inbox.specs.declared.rule.SenderState.{SenderState}
+use Rattle.copy_inbox.specs.declared.rule.TakerState.{TakerState}
+use Rattle.copy_inbox.specs.declared.rule.View.{View}
+use Rattle.copy_inbox.specs.declared.rule.View.TheVariants.{Taking, Sending}
+use mir.Val.{bool_byte}
 use Rattle.copy_inbox.proofs.Parts.{part-append, part-here, part-else, part-moved, part-not_nil, part-nil_left, part-nil_right}
 use Rattle.copy_inbox.proofs.Moves.{each_map, below, SoundWith, seen_sound}
 use Rattle.copy_inbox.proofs.Counts.{left_is, Adds, adds_of, known-is, begun_of, front_counts, tally-nil, tally-le, front_known}

@@ -1,41 +1,39 @@
 -- The results of the workers at the end, joined: the packets, the traces and the count of copies left.
-use Rattle.std.proofs.Common.{◌≡◌, ◌⊎◌, ℕ, suc, ◌+◌, ◌<◌, ◌≤◌, ◌^◌, true, false, cond, eqb, ltb, List, [], ◌∷◌, length}
-use Rattle.std.proofs.Common.{map, get_or, refl, sym, ap, ◌∙◌, subst, inl, inr, arith, Some, Vec}
-use Rattle.std.specs.declared.alloc.Global.{Global}
-use Rattle.std.specs.List.{filter, slice_get, sum_by, AllByRecursion as Each, AllZip}
-use Rattle.std.specs.Option.{option_map_or}
+use Rattle.std.proofs.Common.{◌≡◌, ◌⊎◌, ℕ, suc, ◌+◌, ◌<◌, ◌≤◌, ◌^◌, true, false, cond, eqb, ltb, List, [], ◌∷◌, length, map, get_or, refl, sym, ap, ◌∙◌, subst, inl, inr, arith, Some, Vec}
 use Rattle.std.proofs.lemmas.Bool.{cases_Bool, eqb-true, ne_eqb, ltb-true, ltb-false}
 use Rattle.std.proofs.lemmas.List.Sorted.{IsPermutation-sym}
-use Rattle.trace_lines.specs.declared.line.Line.{Line}
-use Rattle.radio_packet.specs.declared.sent.Sent.{Sent}
-use Rattle.radio_packet.specs.declared.copy.RadioCopy.{RadioCopy}
-use Rattle.mote_net.specs.Net.{NetModel}
-use Rattle.net_agenda.specs.NetSystem.{system_of}
-use Rattle.window_laws.specs.Agenda.{up_to}
-use Rattle.window_laws.specs.NetStep.{NetState, Run, Done, Turn, stamped, turned_at}
-use Rattle.window_laws.specs.Report.{IsReport}
-use Rattle.window_laws.specs.System.{System}
-use Rattle.window_laws.specs.Forward.{RunsForward}
-use Rattle.window_laws.specs.Windows.{is_sent_by, IsJoined, as_log, sends_by, copies_by}
-use Rattle.window_laws.proofs.Lists.{every_append, every_both, every_filter, every_flat_map, every_passes}
-use Rattle.window_laws.proofs.Lists.{every_weaker}
-use Rattle.window_laws.proofs.Order.{sorted_permutes}
-use Rattle.copy_inbox.specs.Handles.{TakerView}
-use Rattle.copy_exchange.specs.Takers.{taken_by, gathered_by}
-use Rattle.copy_exchange.specs.Crossed.{is_own, is_to}
+use Rattle.std.specs.List.{filter, slice_get, sum_by, AllByRecursion as Each, AllZip}
+use Rattle.std.specs.Option.{option_map_or}
+use Rattle.std.specs.declared.alloc.Global.{Global}
 use Rattle.copy_exchange.proofs.Counts.{IsHad, by_worker, total}
 use Rattle.copy_exchange.proofs.CutWindows.{at_the_end, coming, receivers}
-use Rattle.worker_window.specs.declared.share.Share.{Share}
-use Rattle.worker_window.specs.declared.share.EndedShare.{EndedShare}
-use Rattle.worker_window.specs.Ended.{TellsAtEnd}
-use Rattle.window_workers.specs.declared.group.WorkerGroup.{WorkerGroup}
+use Rattle.copy_exchange.specs.Crossed.{is_own, is_to}
+use Rattle.copy_exchange.specs.Takers.{taken_by, gathered_by}
+use Rattle.copy_inbox.specs.Handles.{TakerView}
+use Rattle.mote_net.specs.Net.{NetModel}
+use Rattle.mote_net.specs.Report.{trace_lines_in}
+use Rattle.net_agenda.specs.NetSystem.{system_of}
+use Rattle.radio_packet.specs.declared.copy.RadioCopy.{RadioCopy}
+use Rattle.radio_packet.specs.declared.sent.Sent.{Sent}
+use Rattle.trace_lines.specs.declared.line.Line.{Line}
+use Rattle.window_laws.proofs.Lists.{every_append, every_both, every_filter, every_flat_map, every_passes, every_weaker}
+use Rattle.window_laws.proofs.Order.{sorted_permutes}
+use Rattle.window_laws.specs.Agenda.{up_to}
+use Rattle.window_laws.specs.Forward.{RunsForward}
+use Rattle.window_laws.specs.NetStep.{NetState, Run, Done, Turn, stamped, turned_at}
+use Rattle.window_laws.specs.System.{System}
+use Rattle.window_laws.specs.Windows.{is_sent_by, IsJoined, as_log, sends_by, copies_by}
+use Rattle.window_workers.specs.Crossed.{Pair}
+use Rattle.window_workers.specs.Over.{TellsWhatItKept, log_lines_of, logs_of, AreTracesOf}
 use Rattle.window_workers.specs.WorkerGroup.{WorkersAreAt, IsWorkerAt}
+use Rattle.window_workers.specs.declared.group.WorkerGroup.{WorkerGroup}
+use Rattle.worker_window.specs.Log.{HaveFates, packets_in}
+use Rattle.worker_window.specs.declared.share.EndedShare.{EndedShare}
+use Rattle.worker_window.specs.declared.share.Share.{Share}
+use Rattle.window_laws.specs.Report.{IsReport}
+use Rattle.worker_window.specs.Ended.{TellsAtEnd}
 use Rattle.window_workers.proofs.Lookups.{there, inside, read, beside, as_long, none_of, one_of}
 use Rattle.window_workers.proofs.Step.{own_by, some_worker}
-use Rattle.mote_net.specs.Report.{trace_lines_in}
-use Rattle.window_workers.specs.Crossed.{Pair}
-use Rattle.worker_window.specs.Log.{HaveFates, packets_in}
-use Rattle.window_workers.specs.Over.{TellsWhatItKept, log_lines_of, logs_of, AreTracesOf}
 use Rattle.window_workers.proofs.Pairs.{beyond, each_permutes, same_found}
 use Rattle.serial_run.proofs.Reports.{family}
 use Rattle.window_workers.proofs.Sums.{two_sums}

@@ -1,38 +1,37 @@
 -- The report of the workers is the report of the net, and the copies that went through their inboxes are those in its
 -- log.
-use Rattle.std.proofs.Common.{◌≡◌, ℕ, zero, suc, ◌+◌, ◌<◌, List, [], ◌∷◌, length, map, get_or, refl, sym, ap, ◌∙◌}
-use Rattle.std.proofs.Common.{subst, arith, Some, None, Vec, length-append}
-use Rattle.std.specs.Prelude.{All}
-use Rattle.std.specs.declared.alloc.Global.{Global}
-use Rattle.std.specs.List.{zip, slice_get, sum_by, AllByRecursion as Each, AllZip}
+use Rattle.std.proofs.Common.{◌≡◌, ℕ, zero, suc, ◌+◌, ◌<◌, List, [], ◌∷◌, length, map, get_or, refl, sym, ap, ◌∙◌, subst, arith, Some, None, Vec, length-append}
 use Rattle.std.proofs.lemmas.List.{length-map}
 use Rattle.std.proofs.lemmas.List.Elements.{All-from_recursion}
-use Rattle.trace_lines.specs.declared.line.Line.{Line}
+use Rattle.std.specs.List.{zip, slice_get, sum_by, AllByRecursion as Each, AllZip}
+use Rattle.std.specs.Prelude.{All}
+use Rattle.std.specs.declared.alloc.Global.{Global}
+use Rattle.copy_exchange.proofs.CutWindows.{coming, coming_pending, senders}
+use Rattle.copy_exchange.specs.Takers.{taken_by, gathered_by}
+use Rattle.copy_inbox.specs.Handles.{TakerView}
 use Rattle.kernel_laws.specs.Going.{IsInOrder}
-use Rattle.radio_medium.specs.Medium.{medium_fault}
 use Rattle.mote_net.specs.Net.{NetModel}
-use Rattle.net_agenda.specs.NetSystem.{system_of}
+use Rattle.mote_net.specs.Report.{Packet, ReportModel, trace_lines_in, line_model, report_of}
+use Rattle.mote_net.specs.declared.report.Report.{Report}
 use Rattle.net_agenda.proofs.Systems.{system_is}
+use Rattle.net_agenda.specs.NetSystem.{system_of}
+use Rattle.radio_medium.specs.Medium.{medium_fault}
+use Rattle.serial_run.specs.NetRun.{packet_with_fates, IsReportOf}
+use Rattle.trace_lines.specs.declared.line.Line.{Line}
+use Rattle.window_laws.proofs.Lists.{every_map, every_weaker}
+use Rattle.window_laws.proofs.Unique.{run_is_one}
 use Rattle.window_laws.specs.Agenda.{up_to}
 use Rattle.window_laws.specs.Forward.{RunsForward}
 use Rattle.window_laws.specs.Windows.{as_log}
-use Rattle.window_laws.proofs.Agenda.{below_all}
-use Rattle.window_laws.proofs.Lists.{every_map, every_weaker}
-use Rattle.window_laws.proofs.Pending.{pending_left}
-use Rattle.window_laws.proofs.Unique.{run_is_one}
-use Rattle.copy_inbox.specs.Handles.{TakerView}
-use Rattle.copy_exchange.specs.Takers.{taken_by, gathered_by}
-use Rattle.copy_exchange.proofs.CrossesTo.{crossed_once}
-use Rattle.copy_exchange.proofs.CutWindows.{coming, coming_pending, senders}
-use Rattle.worker_window.specs.declared.share.EndedShare.{EndedShare}
-use Rattle.window_workers.specs.declared.group.WorkerGroup.{WorkerGroup}
-use Rattle.window_workers.specs.WorkerGroup.{WorkersAreAt, IsWorkerAt}
-use Rattle.window_workers.proofs.Lookups.{there, read, zip_inside, zip_long}
-use Rattle.mote_net.specs.declared.report.Report.{Report}
-use Rattle.mote_net.specs.Report.{Packet, ReportModel, trace_lines_in, line_model, report_of}
 use Rattle.window_workers.specs.Crossed.{Pair, logged_packets, CrossedTo, AllCrossed}
-use Rattle.serial_run.specs.NetRun.{packet_with_fates, IsReportOf}
 use Rattle.window_workers.specs.Over.{TellsWhatItKept, logs_of, IsLogOf, AreTracesOf}
+use Rattle.window_workers.specs.WorkerGroup.{WorkersAreAt, IsWorkerAt}
+use Rattle.window_workers.specs.declared.group.WorkerGroup.{WorkerGroup}
+use Rattle.worker_window.specs.declared.share.EndedShare.{EndedShare}
+use Rattle.window_laws.proofs.Agenda.{below_all}
+use Rattle.window_laws.proofs.Pending.{pending_left}
+use Rattle.copy_exchange.proofs.CrossesTo.{crossed_once}
+use Rattle.window_workers.proofs.Lookups.{there, read, zip_inside, zip_long}
 use Rattle.serial_run.proofs.ByWindows.{windows_commute}
 use Rattle.serial_run.proofs.Handed.{one_life, traces_hand_on}
 use Rattle.window_workers.proofs.AllTraces.{is_joined, is_report, left_is, takers_long, traces_are}

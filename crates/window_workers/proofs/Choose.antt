@@ -1,7 +1,7 @@
 -- If there is a value with some property for each number below n, then a function returns such a value for each
 -- number.
 use Rattle.std.proofs.Common.{◌≡◌, ◌⊎◌, ℕ, zero, suc, ◌<◌, cond, eqb, sym, subst, inl, inr, arith}
-use Rattle.std.proofs.lemmas.Bool.{cases_eq, eq-eqb, ne_eqb}
+use Rattle.std.proofs.lemmas.Bool.{eq-eqb, cases_eq, ne_eqb}
 
 pub choose : {Z : Type 0} (default : Z) (P : ℕ → Z → Type 0) (n : ℕ) → ((v : ℕ) → v < n → (z : Z) × P v z) → (f : ℕ → Z) × ((v : ℕ) → v < n → P v (f v))
 choose default P zero h = (λ v. default, λ v l. absurd (omega arith))

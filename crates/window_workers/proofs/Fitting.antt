@@ -1,10 +1,10 @@
 -- The properties of a partition without an error.
 use Rattle.std.proofs.Common.{◌≡◌, ◌⊎◌, ℕ, ◌<◌, ◌≤◌, true, false, not, ◌||◌, ltb, eqb, List, [], ◌∷◌, length, inl, inr, arith, None}
-use Rattle.std.specs.List.{list_all, AllByRecursion as Each}
 use Rattle.std.proofs.lemmas.Bool.{cases_Bool, and_parts, ltb-true}
 use Rattle.std.proofs.lemmas.Bool.Decides.{nat_tests}
-use Rattle.window_workers.specs.WorkerGroup.{IsCut}
+use Rattle.std.specs.List.{list_all, AllByRecursion as Each}
 use Rattle.window_workers.specs.Fits.{cut_fault}
+use Rattle.window_workers.specs.WorkerGroup.{IsCut}
 
 all_there : (workers : ℕ) (owners : List ℕ) → list_all (λ worker. ltb worker workers) owners ≡ true → Each (λ worker. worker < workers) owners
 all_there workers [] e = tt

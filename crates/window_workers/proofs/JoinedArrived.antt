@@ -1,18 +1,18 @@
 -- The copies that were sent to a worker are for its motes.
 use Rattle.std.proofs.Common.{◌≡◌, ◌⊎◌, ℕ, Bool, true, false, List, [], ◌∷◌, ◌++◌, sym, ap, ◌∙◌, subst, inl, inr}
-use Rattle.std.specs.List.{filter, AllByRecursion as Each}
 use Rattle.std.proofs.lemmas.Bool.{cases_Bool, eqb-true}
-use Rattle.radio_packet.specs.declared.copy.RadioCopy.{RadioCopy}
-use Rattle.mote_net.specs.Net.{NetModel}
-use Rattle.copy_exchange.specs.declared.endpoint.Endpoint.{Endpoint}
-use Rattle.copy_exchange.specs.Endpoints.{Collects}
-use Rattle.window_laws.specs.Windows.{is_from_sender}
-use Rattle.copy_exchange.specs.Takers.{SameOfEach, taken_by, gathered_by}
-use Rattle.net_agenda.specs.NetSystem.{system_of}
+use Rattle.std.specs.List.{filter, AllByRecursion as Each}
 use Rattle.copy_exchange.specs.Crossed.{is_to, is_own}
 use Rattle.copy_exchange.specs.CutLaws.{GatheredCopies}
-use Rattle.worker_window.specs.Share.{Motes}
+use Rattle.copy_exchange.specs.Endpoints.{Collects}
+use Rattle.copy_exchange.specs.Takers.{SameOfEach, taken_by, gathered_by}
+use Rattle.copy_exchange.specs.declared.endpoint.Endpoint.{Endpoint}
+use Rattle.mote_net.specs.Net.{NetModel}
+use Rattle.net_agenda.specs.NetSystem.{system_of}
+use Rattle.radio_packet.specs.declared.copy.RadioCopy.{RadioCopy}
 use Rattle.window_laws.proofs.Lists.{every_weaker, every_both, every_passes}
+use Rattle.window_laws.specs.Windows.{is_from_sender}
+use Rattle.worker_window.specs.Share.{Motes}
 use Rattle.window_workers.proofs.Sent.{every_of_each}
 
 module _ (P : RadioCopy → Type 0) where

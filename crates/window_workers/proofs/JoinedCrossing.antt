@@ -1,10 +1,10 @@
 -- Threads may share the window and the rest of the data of each worker's thread.
+use Rattle.mote_net.proofs.NetCrossing.{net_sync}
 use denote.Param.Send.{IsSync, sendable}
 use denote.Param.SendFields.{declared_sync}
-use denote.Ref.{NamedLft}
 use denote.RattleType.{RattleType}
+use denote.Ref.{NamedLft}
 use Rattle.copy_inbox.proofs.inbox.Inbox.TheSendSync as inbox
-use Rattle.mote_net.proofs.NetCrossing.{net_sync}
 use Rattle.window_workers.specs.contracts.joins.worker.Runner as Runner
 use Rattle.window_workers.specs.contracts.joins.worker.WorkersWindow as WorkersWindow
 

@@ -4,9 +4,9 @@ use Rattle.std.proofs.Math.Seq.{take-length, take-suc}
 use Rattle.std.specs.List.{AllByRecursion}
 use Rattle.radio_packet.specs.declared.copy.RadioCopy.{RadioCopy}
 use Rattle.window_laws.proofs.Lists.{every_append, every_weaker}
+use Rattle.window_laws.specs.Windows.{NoneBefore}
 use Rattle.window_workers.specs.JoinedWorker.{IsFirstOf}
 use Rattle.window_workers.specs.WorkerGroup.{IsNotBefore}
-use Rattle.window_laws.specs.Windows.{NoneBefore}
 
 nothing_before : (xs : List RadioCopy) (first result : Option ℕ) → ((copy : RadioCopy) → IsNotBefore first copy → IsNotBefore result copy) → AllByRecursion (IsNotBefore first) xs → AllByRecursion (IsNotBefore result) xs
 nothing_before xs first result f h = every_weaker _ _ f xs h

@@ -1,25 +1,23 @@
 -- At each moment up to the first pending event, the workers are in the state of that moment.
-use Rattle.std.proofs.Common.{◌≡◌, ◌⊎◌, ℕ, ◌<◌, ◌≤◌, Bool, true, false, not, ◌&&◌, ltb, List, [], ◌∷◌, length, get_or}
-use Rattle.std.proofs.Common.{refl, sym, ◌∙◌, subst, inl, inr, arith, Option, Some, None}
-use Rattle.std.specs.List.{filter, slice_get, AllByRecursion as Each}
+use Rattle.std.proofs.Common.{◌≡◌, ◌⊎◌, ℕ, ◌<◌, ◌≤◌, Bool, true, false, not, ◌&&◌, ltb, List, [], ◌∷◌, length, get_or, refl, sym, ◌∙◌, subst, inl, inr, arith, Option, Some, None}
 use Rattle.std.proofs.lemmas.Bool.{cases_Bool, le-ltb}
-use Rattle.radio_packet.specs.declared.copy.RadioCopy.{RadioCopy}
+use Rattle.std.specs.List.{filter, slice_get, AllByRecursion as Each}
+use Rattle.copy_exchange.proofs.CutWindows.{idle, receivers}
+use Rattle.copy_exchange.specs.Crossed.{is_own, is_to, copies_seen}
+use Rattle.copy_exchange.specs.Takers.{taken_by}
+use Rattle.copy_inbox.specs.Handles.{TakerView}
 use Rattle.mote_net.specs.Net.{NetModel}
+use Rattle.net_agenda.specs.NetSystem.{system_of}
+use Rattle.radio_packet.specs.declared.copy.RadioCopy.{RadioCopy}
+use Rattle.window_laws.proofs.Lists.{every_append, every_weaker}
 use Rattle.window_laws.specs.Forward.{RunsForward}
 use Rattle.window_laws.specs.Windows.{NoneBefore, copies_by}
-use Rattle.window_laws.proofs.Lists.{every_append, every_weaker}
-use Rattle.net_agenda.specs.NetSystem.{system_of}
-use Rattle.copy_inbox.specs.Handles.{TakerView}
-use Rattle.copy_exchange.specs.Takers.{taken_by}
-use Rattle.copy_exchange.specs.Crossed.{is_own, is_to, copies_seen}
-use Rattle.copy_exchange.proofs.CutWindows.{idle, receivers}
-use Rattle.worker_window.specs.declared.share.Share.{Share}
-use Rattle.worker_window.specs.Share.{IsWholeShare, is_to_come}
-use Rattle.window_workers.specs.declared.group.WorkerGroup.{WorkerGroup}
-use Rattle.window_workers.specs.WorkerGroup.{WorkersAreAt, IsWorkerAt}
 use Rattle.window_workers.specs.JoinedNext.{IsNextOfAll}
+use Rattle.window_workers.specs.WorkerGroup.{WorkersAreAt, IsWorkerAt, IsNotBefore}
+use Rattle.window_workers.specs.declared.group.WorkerGroup.{WorkerGroup}
 use Rattle.worker_window.specs.Next.{TellsNext}
-use Rattle.window_workers.specs.WorkerGroup.{IsNotBefore}
+use Rattle.worker_window.specs.Share.{IsWholeShare, is_to_come}
+use Rattle.worker_window.specs.declared.share.Share.{Share}
 use Rattle.window_workers.proofs.Lookups.{there, read, inside, as_long, each_at, each_from}
 use Rattle.window_workers.proofs.Step.{own_by, some_worker}
 

@@ -1,32 +1,30 @@
 -- The state of all workers after a window.
-use Rattle.std.proofs.Common.{◌≡◌, ℕ, ◌+◌, ◌<◌, ◌≤◌, true, false, eqb, List, [], ◌∷◌, ◌++◌, length, map, get_or, refl}
-use Rattle.std.proofs.Common.{sym, ap, ◌∙◌, subst, arith, Option, Some, None}
-use Rattle.std.specs.List.{filter, flat_map, zip, slice_get, AllByRecursion as Each}
-use Rattle.std.specs.Option.{option_map_or}
+use Rattle.std.proofs.Common.{◌≡◌, ℕ, ◌+◌, ◌<◌, ◌≤◌, true, false, eqb, List, [], ◌∷◌, ◌++◌, length, map, get_or, refl, sym, ap, ◌∙◌, subst, arith, Option, Some, None}
 use Rattle.std.proofs.lemmas.Bool.{ne_eqb}
 use Rattle.std.proofs.lemmas.List.Elements.{filter-append}
-use Rattle.radio_packet.specs.declared.copy.RadioCopy.{RadioCopy}
-use Rattle.mote_net.specs.Net.{NetModel}
-use Rattle.window_laws.specs.Forward.{RunsForward}
-use Rattle.window_laws.specs.Windows.{is_from_sender}
-use Rattle.window_laws.proofs.Lists.{filter_filter, every_weaker}
-use Rattle.net_agenda.specs.NetSystem.{system_of}
-use Rattle.copy_inbox.specs.Handles.{TakerView}
-use Rattle.copy_exchange.specs.Endpoints.{delivered, delivered_to}
-use Rattle.copy_exchange.specs.Takers.{copies_gathered, taken_by, gathered_by}
-use Rattle.copy_inbox.specs.Items.{copies_of}
+use Rattle.std.specs.List.{filter, flat_map, zip, slice_get, AllByRecursion as Each}
+use Rattle.std.specs.Option.{option_map_or}
 use Rattle.copy_exchange.specs.Crossed.{is_own, is_to}
 use Rattle.copy_exchange.specs.CutLaws.{GatheredCopies}
-use Rattle.worker_window.specs.declared.share.Share.{Share}
-use Rattle.worker_window.specs.Share.{Motes, IsWholeShare}
-use Rattle.worker_window.specs.Window.{RunsOwnMote, IsOutgoing, outgoing_by}
+use Rattle.copy_exchange.specs.Endpoints.{delivered, delivered_to}
+use Rattle.copy_exchange.specs.Takers.{copies_gathered, taken_by, gathered_by}
+use Rattle.copy_inbox.specs.Handles.{TakerView}
+use Rattle.copy_inbox.specs.Items.{copies_of}
+use Rattle.mote_net.specs.Net.{NetModel}
+use Rattle.net_agenda.specs.NetSystem.{system_of}
+use Rattle.radio_packet.specs.declared.copy.RadioCopy.{RadioCopy}
+use Rattle.window_laws.proofs.Lists.{filter_filter, every_weaker}
+use Rattle.window_laws.specs.Forward.{RunsForward}
+use Rattle.window_laws.specs.Windows.{is_from_sender}
+use Rattle.window_workers.specs.JoinedLaws.{GroupRunsUntil}
+use Rattle.window_workers.specs.JoinedWorker.{IsFirstOf}
+use Rattle.window_workers.specs.Worker.{make_worker}
+use Rattle.window_workers.specs.WorkerGroup.{WorkersAreAt, IsWorkerAt, IsCut, IsNotBefore}
 use Rattle.window_workers.specs.declared.group.WorkerGroup.{WorkerGroup}
 use Rattle.window_workers.specs.declared.worker.Worker.{Worker}
-use Rattle.window_workers.specs.WorkerGroup.{WorkersAreAt, IsWorkerAt}
-use Rattle.window_workers.specs.Worker.{make_worker}
-use Rattle.window_workers.specs.JoinedLaws.{GroupRunsUntil}
-use Rattle.window_workers.specs.WorkerGroup.{IsCut, IsNotBefore}
-use Rattle.window_workers.specs.JoinedWorker.{IsFirstOf}
+use Rattle.worker_window.specs.Share.{Motes, IsWholeShare}
+use Rattle.worker_window.specs.Window.{RunsOwnMote, IsOutgoing, outgoing_by}
+use Rattle.worker_window.specs.declared.share.Share.{Share}
 use Rattle.window_workers.proofs.Choose.{choose}
 use Rattle.window_workers.proofs.Lookups.{there, read, mapped, as_long, inside, each_from, each_at, zip_long, map_long}
 use Rattle.window_workers.proofs.Lookups.{none_of, one_of, same_found}

@@ -1,23 +1,23 @@
 -- A window of all workers leads all of them to its end.
 use Rattle.std.proofs.Common.{◌≡◌, ℕ, ◌+◌, ◌<◌, ◌≤◌, List, length, map, get_or, sym, ap, subst, Some}
 use Rattle.std.specs.List.{zip, slice_get, AllByRecursion as Each}
-use Rattle.mote_net.specs.Net.{NetModel}
-use Rattle.net_agenda.specs.NetSystem.{system_of}
-use Rattle.copy_inbox.specs.Handles.{TakerView}
-use Rattle.copy_exchange.specs.declared.endpoint.Endpoint.{Endpoint}
+use Rattle.copy_exchange.specs.Crossed.{IsExpected}
 use Rattle.copy_exchange.specs.Endpoints.{StartsAs, GathersDelivered}
 use Rattle.copy_exchange.specs.Takers.{taken_by}
+use Rattle.copy_exchange.specs.declared.endpoint.Endpoint.{Endpoint}
+use Rattle.copy_inbox.specs.Handles.{TakerView}
 use Rattle.copy_inbox.specs.Items.{copies_of}
-use Rattle.worker_window.specs.declared.share.Share.{Share}
-use Rattle.worker_window.specs.Share.{IsWholeShare}
-use Rattle.worker_window.specs.Window.{RunsWindow}
-use Rattle.copy_exchange.specs.Crossed.{IsExpected}
-use Rattle.window_workers.specs.declared.group.WorkerGroup.{WorkerGroup}
-use Rattle.window_workers.specs.declared.worker.Worker.{Worker}
-use Rattle.window_workers.specs.WorkerGroup.{WorkersAreAt, IsWorkerAt}
-use Rattle.window_workers.specs.Worker.{make_worker}
+use Rattle.mote_net.specs.Net.{NetModel}
+use Rattle.net_agenda.specs.NetSystem.{system_of}
 use Rattle.window_workers.specs.JoinedLaws.{GroupRunsUntil}
 use Rattle.window_workers.specs.JoinedWorker.{RunsWorker}
+use Rattle.window_workers.specs.Worker.{make_worker}
+use Rattle.window_workers.specs.WorkerGroup.{WorkersAreAt, IsWorkerAt}
+use Rattle.window_workers.specs.declared.group.WorkerGroup.{WorkerGroup}
+use Rattle.window_workers.specs.declared.worker.Worker.{Worker}
+use Rattle.worker_window.specs.Share.{IsWholeShare}
+use Rattle.worker_window.specs.Window.{RunsWindow}
+use Rattle.worker_window.specs.declared.share.Share.{Share}
 use Rattle.window_workers.proofs.Lookups.{there, read, mapped, paired, beside, as_long}
 use Rattle.window_workers.proofs.Numbered.{numbered}
 use Rattle.window_workers.proofs.JoinedReady.{arrived_come}

@@ -3,13 +3,13 @@ use Rattle.std.proofs.Common.{◌≡◌, ℕ, suc, ◌+◌, ◌<◌, ◌≤◌, 
 use Rattle.std.proofs.Math.Seq.{take-length, take-suc}
 use Rattle.std.specs.List.{AllByRecursion as Each}
 use Rattle.radio_packet.specs.declared.copy.RadioCopy.{RadioCopy}
-use Rattle.window_laws.specs.Windows.{NoneBefore}
 use Rattle.window_laws.proofs.Lists.{every_append, every_weaker}
-use Rattle.worker_window.specs.declared.share.Share.{Share}
-use Rattle.window_workers.specs.declared.worker.Worker.{Worker}
-use Rattle.window_workers.specs.WorkerGroup.{IsNotBefore}
+use Rattle.window_laws.specs.Windows.{NoneBefore}
 use Rattle.window_workers.specs.JoinedNext.{FirstOfAll, IsNextOfAll}
+use Rattle.window_workers.specs.WorkerGroup.{IsNotBefore}
+use Rattle.window_workers.specs.declared.worker.Worker.{Worker}
 use Rattle.worker_window.specs.Next.{TellsNext}
+use Rattle.worker_window.specs.declared.share.Share.{Share}
 
 pub taken_all : {X : Type 0} (xs : List X) (i : ℕ) → length xs ≤ i → i ≤ length xs → take i xs ≡ xs
 taken_all xs i h k = let e : i ≡ length xs = omega arith in ap (λ j. take j xs) e ∙ take-length xs

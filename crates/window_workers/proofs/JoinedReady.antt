@@ -1,28 +1,26 @@
 -- Workers between two windows are ready to run after their endpoints are made.
-use Rattle.std.proofs.Common.{◌≡◌, ℕ, suc, ◌<◌, ◌≤◌, ◌^◌, true, false, List, [], ◌∷◌, ◌++◌, length, get_or, refl}
-use Rattle.std.proofs.Common.{sym, ap, ◌∙◌, subst, arith, Option, Some, None}
-use Rattle.std.specs.List.{filter, zip, slice_get, range_with_len, AllZip, AllByRecursion as Each}
+use Rattle.std.proofs.Common.{◌≡◌, ℕ, suc, ◌<◌, ◌≤◌, ◌^◌, true, false, List, [], ◌∷◌, ◌++◌, length, get_or, refl, sym, ap, ◌∙◌, subst, arith, Option, Some, None}
 use Rattle.std.proofs.lemmas.List.Elements.{filter-append}
 use Rattle.std.proofs.lemmas.List.FromFn.{get_or-range_with_len}
-use Rattle.radio_packet.specs.declared.copy.RadioCopy.{RadioCopy}
-use Rattle.mote_net.specs.Net.{NetModel}
-use Rattle.window_laws.specs.Windows.{NoneBefore, is_from_sender}
-use Rattle.window_laws.proofs.Lists.{every_weaker, every_both}
-use Rattle.copy_inbox.specs.Items.{copies_of}
-use Rattle.copy_inbox.specs.Handles.{TakerView}
-use Rattle.copy_exchange.specs.declared.endpoint.Endpoint.{Endpoint}
-use Rattle.copy_exchange.specs.Endpoints.{IsEndpoint, Collects, Together, StartsAs}
-use Rattle.copy_exchange.specs.Takers.{copies_gathered, taken_by, gathered_by}
-use Rattle.copy_exchange.specs.Inboxes.{HasNoMarks}
-use Rattle.worker_window.specs.declared.share.Share.{Share}
-use Rattle.worker_window.specs.Share.{Motes}
+use Rattle.std.specs.List.{filter, zip, slice_get, range_with_len, AllZip, AllByRecursion as Each}
 use Rattle.copy_exchange.specs.Crossed.{is_own, IsExpected}
-use Rattle.window_workers.specs.declared.group.WorkerGroup.{WorkerGroup}
-use Rattle.window_workers.specs.WorkerGroup.{WorkersAreAt, IsWorkerAt}
-use Rattle.window_workers.specs.Worker.{make_worker}
-use Rattle.window_workers.specs.Threads.{AllMade}
+use Rattle.copy_exchange.specs.Endpoints.{IsEndpoint, Collects, Together, StartsAs}
+use Rattle.copy_exchange.specs.Inboxes.{HasNoMarks}
+use Rattle.copy_exchange.specs.Takers.{copies_gathered, taken_by, gathered_by}
+use Rattle.copy_exchange.specs.declared.endpoint.Endpoint.{Endpoint}
+use Rattle.copy_inbox.specs.Handles.{TakerView}
+use Rattle.copy_inbox.specs.Items.{copies_of}
+use Rattle.mote_net.specs.Net.{NetModel}
+use Rattle.radio_packet.specs.declared.copy.RadioCopy.{RadioCopy}
+use Rattle.window_laws.proofs.Lists.{every_weaker, every_both}
+use Rattle.window_laws.specs.Windows.{NoneBefore, is_from_sender}
 use Rattle.window_workers.specs.JoinedWorker.{IsReadyWorker}
-use Rattle.window_workers.specs.WorkerGroup.{IsNotBefore}
+use Rattle.window_workers.specs.Threads.{AllMade}
+use Rattle.window_workers.specs.Worker.{make_worker}
+use Rattle.window_workers.specs.WorkerGroup.{WorkersAreAt, IsWorkerAt, IsNotBefore}
+use Rattle.window_workers.specs.declared.group.WorkerGroup.{WorkerGroup}
+use Rattle.worker_window.specs.Share.{Motes}
+use Rattle.worker_window.specs.declared.share.Share.{Share}
 use Rattle.window_workers.proofs.Lookups.{there, inside, read, beside, as_long, each_at, each_zipped, same_found}
 use Rattle.window_workers.proofs.Sent.{every_of_each}
 use Rattle.window_workers.proofs.Numbered.{numbered}

@@ -1,26 +1,25 @@
 -- The endpoints of workers that have run, at the end of a window.
-use Rattle.std.proofs.Common.{◌≡◌, ◌⊎◌, ℕ, ◌==◌, true, false, List, [], ◌∷◌, length, map, sym, ap, ◌∙◌, arith, inl}
-use Rattle.std.proofs.Common.{inr, subst}
-use Rattle.std.specs.Prelude.{slice_index}
+use Rattle.std.proofs.Common.{◌≡◌, ◌⊎◌, ℕ, ◌==◌, true, false, List, [], ◌∷◌, length, map, sym, ap, ◌∙◌, arith, inl, inr, subst}
 use Rattle.std.specs.List.{filter, zip, AllZip, AllByRecursion as Each}
-use Rattle.std.proofs.lemmas.Bool.{cases_Bool, eqb-true, eq-eqb, false≢true}
-use Rattle.radio_packet.specs.declared.copy.RadioCopy.{RadioCopy}
-use Rattle.mote_net.specs.Net.{NetModel}
-use Rattle.window_laws.proofs.Lists.{filter_none, every_weaker}
-use Rattle.copy_inbox.specs.Handles.{InboxId, TakerView}
-use Rattle.copy_exchange.specs.declared.endpoint.Endpoint.{Endpoint}
-use Rattle.copy_exchange.specs.Endpoints.{StartsAs, Returns, AllReturn}
-use Rattle.window_laws.specs.Windows.{is_from_sender}
 use Rattle.copy_exchange.proofs.Windows.{returns_from}
-use Rattle.worker_window.specs.declared.share.Share.{Share}
 use Rattle.copy_exchange.specs.Crossed.{is_own}
-use Rattle.worker_window.specs.Window.{IsOutgoing}
-use Rattle.window_workers.specs.declared.group.WorkerGroup.{WorkerGroup}
-use Rattle.window_workers.specs.declared.worker.Worker.{Worker}
-use Rattle.window_workers.specs.WorkerGroup.{WorkersAreAt}
+use Rattle.copy_exchange.specs.Endpoints.{StartsAs, Returns, AllReturn}
+use Rattle.copy_exchange.specs.declared.endpoint.Endpoint.{Endpoint}
+use Rattle.copy_inbox.specs.Handles.{InboxId, TakerView}
+use Rattle.mote_net.specs.Net.{NetModel}
+use Rattle.radio_packet.specs.declared.copy.RadioCopy.{RadioCopy}
+use Rattle.window_laws.proofs.Lists.{filter_none, every_weaker}
+use Rattle.window_laws.specs.Windows.{is_from_sender}
+use Rattle.window_workers.specs.JoinedWorker.{RunsWorker}
 use Rattle.window_workers.specs.Threads.{AreMade, HaveWorked}
 use Rattle.window_workers.specs.Worker.{make_worker}
-use Rattle.window_workers.specs.JoinedWorker.{RunsWorker}
+use Rattle.window_workers.specs.WorkerGroup.{WorkersAreAt}
+use Rattle.window_workers.specs.declared.group.WorkerGroup.{WorkerGroup}
+use Rattle.window_workers.specs.declared.worker.Worker.{Worker}
+use Rattle.worker_window.specs.Window.{IsOutgoing}
+use Rattle.worker_window.specs.declared.share.Share.{Share}
+use Rattle.std.specs.Prelude.{slice_index}
+use Rattle.std.proofs.lemmas.Bool.{eq-eqb, cases_Bool, eqb-true, false≢true}
 use Rattle.window_workers.proofs.Lookups.{read, as_long}
 use Rattle.window_workers.proofs.Step.{own_of}
 

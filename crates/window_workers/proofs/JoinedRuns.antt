@@ -2,12 +2,12 @@
 use Rattle.std.proofs.Common.{ℕ, ◌≡◌, ◌+◌, ◌≤◌, List, Option, Some, None, sym, subst, arith}
 use Rattle.std.proofs.Math.Nat.{le-min, min-le_left}
 use Rattle.mote_net.specs.Net.{NetModel}
+use Rattle.net_agenda.specs.NetSystem.{system_of}
 use Rattle.window_laws.specs.Forward.{RunsForward}
 use Rattle.window_laws.specs.Windows.{NoneBefore}
-use Rattle.net_agenda.specs.NetSystem.{system_of}
-use Rattle.window_workers.specs.declared.group.WorkerGroup.{WorkerGroup}
-use Rattle.window_workers.specs.WorkerGroup.{WorkersAreAt}
 use Rattle.window_workers.specs.JoinedRun.{BeginsAt, start_of_window}
+use Rattle.window_workers.specs.WorkerGroup.{WorkersAreAt}
+use Rattle.window_workers.specs.declared.group.WorkerGroup.{WorkerGroup}
 use Rattle.window_workers.proofs.JoinedIsInState.{comes_no_sooner, in_state}
 
 no_sooner : (reached end : ℕ) (next : Option ℕ) → NoneBefore reached next → reached ≤ end + 1 → reached ≤ start_of_window end next

@@ -1,24 +1,23 @@
 -- The copies that are left for one worker at the end: those pending for its motes and those in its inbox.
-use Rattle.std.proofs.Common.{◌≡◌, ℕ, suc, ◌+◌, ◌≤◌, false, not, ltb, List, [], ◌++◌, length, sym, ap, ◌∙◌, arith}
-use Rattle.std.proofs.Common.{append-nil, length-append, Option}
-use Rattle.std.specs.Prelude.{IsPermutation}
-use Rattle.std.specs.List.{filter}
+use Rattle.std.proofs.Common.{◌≡◌, ℕ, suc, ◌+◌, ◌≤◌, false, not, ltb, List, [], ◌++◌, length, sym, ap, ◌∙◌, arith, append-nil, length-append, Option}
 use Rattle.std.proofs.lemmas.Bool.Decides.{nat_tests}
 use Rattle.std.proofs.lemmas.List.Elements.{filter-append}
 use Rattle.std.proofs.lemmas.List.Sorted.{length_permutation}
-use Rattle.radio_packet.specs.declared.copy.RadioCopy.{RadioCopy}
+use Rattle.std.specs.List.{filter}
+use Rattle.std.specs.Prelude.{IsPermutation}
+use Rattle.copy_exchange.proofs.CutWindows.{coming}
+use Rattle.copy_exchange.specs.Crossed.{is_own, is_to, copies_seen}
+use Rattle.copy_exchange.specs.Takers.{taken_by, gathered_by}
+use Rattle.copy_inbox.specs.Handles.{TakerView}
 use Rattle.mote_net.specs.Net.{NetModel}
+use Rattle.net_agenda.specs.NetSystem.{system_of}
+use Rattle.radio_packet.specs.declared.copy.RadioCopy.{RadioCopy}
+use Rattle.window_laws.proofs.Lists.{filter_filter, filter_none, every_weaker}
 use Rattle.window_laws.specs.Forward.{RunsForward}
 use Rattle.window_laws.specs.Windows.{first_mote, Windows, NoneBefore, is_from_sender}
-use Rattle.window_laws.proofs.Lists.{filter_filter, filter_none, every_weaker}
-use Rattle.net_agenda.specs.NetSystem.{system_of}
-use Rattle.copy_inbox.specs.Handles.{TakerView}
-use Rattle.copy_exchange.specs.Takers.{taken_by, gathered_by}
-use Rattle.copy_exchange.specs.Crossed.{is_own, is_to, copies_seen}
-use Rattle.copy_exchange.proofs.CutWindows.{coming}
-use Rattle.worker_window.specs.declared.share.Share.{Share}
-use Rattle.worker_window.specs.Share.{Motes, is_to_come}
 use Rattle.window_workers.specs.WorkerGroup.{IsWorkerAt}
+use Rattle.worker_window.specs.Share.{Motes, is_to_come}
+use Rattle.worker_window.specs.declared.share.Share.{Share}
 use Rattle.window_workers.proofs.Waiting.{same_copies, rest_later, waiting, gathered_is, to_come_is}
 use Rattle.serial_run.specs.Counted.{is_by}
 

@@ -16,9 +16,11 @@ pub mod JoinedRuns
 pub mod Left
 pub mod Logs
 pub mod Lookups
+pub mod MarkedAll
 pub mod MarkedBounds
 pub mod MarkedCrossing
 pub mod MarkedEnds
+pub mod MarkedExpected
 pub mod MarkedFronts
 pub mod MarkedLists
 pub mod MarkedLonger

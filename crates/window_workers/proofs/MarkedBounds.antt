@@ -2,8 +2,8 @@
 use Rattle.std.proofs.Common.{◌≡◌, ◌⊎◌, ℕ, zero, suc, ◌+◌, ◌*◌, ◌<◌, ◌≤◌, inl, inr, arith, suc-mul}
 use Rattle.std.proofs.Math.Nat.{le-div_iff_mul-le, le-mul_of_pos_right}
 use Rattle.std.proofs.lemmas.Bool.{cases_lt}
-use Rattle.window_workers.specs.WindowLength.{end_of_window}
 use Rattle.window_workers.specs.MarkedBounds.{bound, windows_of, AreWindows}
+use Rattle.window_workers.specs.WindowLength.{end_of_window}
 
 pub at_first : (width end : ℕ) → bound width end 0 ≡ 0
 at_first width end = omega arith

@@ -1,39 +1,39 @@
 -- The promises of all threads together show that all workers are at the end.
-use Rattle.std.proofs.Common.{◌≡◌, ◌≢◌, ℕ, suc, ◌<◌, ◌≤◌, false, List, [], length, get_or, refl, sym, ap, ◌∙◌, subst}
-use Rattle.std.proofs.Common.{inl, inr, arith, append-nil, Option, Some, None}
-use Rattle.std.specs.List.{slice_get, AllByRecursion as Each}
+use Rattle.std.proofs.Common.{◌≡◌, ◌≢◌, ℕ, suc, ◌<◌, ◌≤◌, false, List, [], length, get_or, refl, sym, ap, ◌∙◌, subst, inl, inr, arith, append-nil, Option, Some, None}
 use Rattle.std.proofs.lemmas.Bool.{cases_Bool, false≢true}
+use Rattle.std.specs.List.{slice_get, AllByRecursion as Each}
+use Rattle.copy_exchange.proofs.AfterWindow.{zip_each}
+use Rattle.copy_exchange.proofs.Early.{copies_pushes}
+use Rattle.copy_exchange.proofs.Gathers.{OneOf, with_joined, gather_is}
+use Rattle.copy_exchange.proofs.Parts.{from}
+use Rattle.copy_exchange.specs.Crossed.{is_own, crossed}
+use Rattle.copy_exchange.specs.Endpoints.{pushed_list}
+use Rattle.copy_exchange.specs.Inboxes.{IsSettled}
+use Rattle.copy_exchange.specs.Takers.{copies_in, taken_by, gathered_by, IsOrderly}
+use Rattle.copy_inbox.specs.Gathered.{Whole}
+use Rattle.copy_inbox.specs.Handles.{InboxId, TakerView, SenderView, AllGathered, PacketsLeft}
+use Rattle.copy_inbox.specs.Items.{copies_of, part, HasPrefix}
+use Rattle.copy_inbox.specs.Views.{make_taker_state}
+use Rattle.copy_inbox.specs.declared.rule.TakerState.{TakerState}
 use Rattle.mote_net.specs.Net.{NetModel}
+use Rattle.net_agenda.specs.NetSystem.{system_of}
 use Rattle.window_laws.specs.Forward.{RunsForward}
 use Rattle.window_laws.specs.Windows.{first_mote, Windows, NoneBefore}
-use Rattle.net_agenda.specs.NetSystem.{system_of}
-use Rattle.copy_exchange.specs.Crossed.{is_own, crossed}
-use Rattle.copy_inbox.specs.declared.rule.TakerState.{TakerState}
-use Rattle.copy_inbox.specs.Gathered.{Whole}
-use Rattle.copy_inbox.specs.Items.{copies_of, part, HasPrefix}
-use Rattle.copy_inbox.specs.Handles.{InboxId, TakerView, SenderView, AllGathered, PacketsLeft}
-use Rattle.copy_inbox.specs.Views.{make_taker_state}
-use Rattle.copy_exchange.specs.Takers.{copies_in, taken_by, gathered_by, IsOrderly}
-use Rattle.copy_exchange.specs.Inboxes.{IsSettled}
-use Rattle.copy_exchange.proofs.Gathers.{OneOf, with_joined, gather_is}
-use Rattle.copy_exchange.proofs.AfterWindow.{zip_each}
-use Rattle.copy_exchange.proofs.Parts.{from}
-use Rattle.copy_exchange.proofs.Early.{copies_pushes}
-use Rattle.worker_window.specs.declared.share.Share.{Share}
-use Rattle.worker_window.specs.Share.{Motes, IsWholeShare}
-use Rattle.window_workers.specs.declared.group.WorkerGroup.{WorkerGroup}
+use Rattle.window_workers.specs.MarkedAtEnd.{EndsMarked, EndAllMarked}
+use Rattle.window_workers.specs.MarkedBounds.{bound, AreWindows}
+use Rattle.window_workers.specs.MarkedSenders.{AreSenders}
+use Rattle.window_workers.specs.MarkedWorkerHistory.{WorkerHistory, WorkerRunsWindows}
 use Rattle.window_workers.specs.WorkerGroup.{WorkersAreAt, IsWorkerAt}
+use Rattle.window_workers.specs.declared.group.WorkerGroup.{WorkerGroup}
+use Rattle.worker_window.specs.Share.{Motes, IsWholeShare}
+use Rattle.worker_window.specs.declared.share.Share.{Share}
+use Rattle.window_workers.proofs.MarkedAll.{AllRan}
 use Rattle.window_workers.proofs.Choose.{choose}
 use Rattle.window_workers.proofs.Lookups.{there, inside, read, same_found, each_at, each_from}
 use Rattle.window_workers.proofs.Same.{keeps_same}
 use Rattle.window_workers.proofs.Step.{own_of, own_by}
-use Rattle.window_workers.specs.MarkedBounds.{bound, AreWindows}
-use Rattle.window_workers.specs.MarkedAtEnd.{EndsMarked, EndAllMarked}
-use Rattle.copy_exchange.specs.Endpoints.{pushed_list}
-use Rattle.window_workers.specs.MarkedSenders.{AreSenders}
-use Rattle.window_workers.specs.MarkedWorkerHistory.{WorkerHistory, WorkerRunsWindows}
-use Rattle.window_workers.specs.MarkedAll.{AllRan, GatheredSenders}
 use Rattle.window_workers.proofs.MarkedBounds.{at_the_end}
+use Rattle.window_workers.proofs.MarkedExpected.{all_arrived}
 use Rattle.window_workers.proofs.MarkedPairs.{not_other, pair, copies_from, copies_none}
 use Rattle.window_workers.proofs.MarkedSeen.{nobodys, sent_so_far, of_worker, of_nobody}
 use Rattle.window_workers.proofs.MarkedSettles.{pair_taken, all_taken, one, gathered_all, whole_then, no_mark, orderly}
@@ -56,10 +56,9 @@ module _ (n : NetModel) (owners : List ℕ) (width windows : ℕ) (group : Worke
     share_at : slice_get group.shares.items v ≡ Some share
     taker_at : slice_get group.takers.items v ≡ Some taker
     ran : WorkerRunsWindows n owners width windows workers v z.state.made z.state.taken (λ u. pushed_list (h.sender u v)) z.history
-    keeps : IsWholeShare n owners v (bound width n.end windows) (z.history.motes windows) (copies_of z.state.taken) share
+    keeps : IsWholeShare n owners v (bound width n.end windows) (z.history.motes windows) (z.history.arrived windows) share
     are_senders : AreSenders workers v (h.sender v) z.state.made z.senders
     begun : Each (λ (s : SenderView). HasPrefix s.state.pushed (part s.state.number z.state.taken)) z.senders
-    gathers : GatheredSenders z.state.made z.state.taken z.senders taker
     inbox : InboxId
     taker_is : taker ≡ record { inbox = inbox; state = with_joined z.senders (record z.state { gathered = [] }) }
 
@@ -79,13 +78,6 @@ module _ (n : NetModel) (owners : List ℕ) (width windows : ℕ) (group : Worke
           keeps = e.promise.keeps;
           are_senders = e.are_senders;
           begun = e.begun;
-          gathers = record {
-            before = e.before;
-            is_made = refl;
-            is_taken = refl;
-            nobody = e.promise.nobody;
-            gathered = e.gathered;
-          };
           inbox = e.before.inbox;
           taker_is =
               e.gathered
@@ -98,7 +90,7 @@ module _ (n : NetModel) (owners : List ℕ) (width windows : ℕ) (group : Worke
   no_part = record {
     state = make_taker_state false 0 [] [];
     senders = [];
-    history = record { motes = λ k. first_mote (system_of n); taken = λ k. []; outgoing = λ k. [] };
+    history = record { motes = λ k. first_mote (system_of n); taken = λ k. []; arrived = λ k. []; outgoing = λ k. [] };
   }
 
   parts : (f : ℕ → Part) × ((v : ℕ) → v < workers → IsPart v (f v))
@@ -136,6 +128,9 @@ module _ (n : NetModel) (owners : List ℕ) (width windows : ℕ) (group : Worke
       all_had : (s : ℕ) → from s (copies_of (z.history.taken windows)) ≡ from s (copies_of z.state.taken)
       all_had s = ap (λ l. from s (copies_of l)) p.ran.all
 
+      arrived_all : z.history.arrived windows ≡ copies_of z.state.taken
+      arrived_all = all_arrived n owners width windows workers all are v low windows (omega arith) ∙ ap copies_of p.ran.all
+
       -- the copies taken from motes of other workers are all copies that were sent to this worker
       had_all : (s : ℕ) → is_own owners v s ≡ false → (o : Option ℕ) → slice_get owners s ≡ o → from s (copies_of z.state.taken) ≡ from s (sent_so_far n owners width windows workers all h.cut are v windows)
       had_all s other None e =
@@ -170,7 +165,7 @@ module _ (n : NetModel) (owners : List ℕ) (width windows : ℕ) (group : Worke
       at_worker = record {
         keeps = subst (λ l. IsWholeShare n owners v (suc n.end) motes l p.share) (sym (ap taken_by p.taker_is))
             (keeps_same n owners v (z.history.motes windows) motes (own_stage n fine owners width windows workers all h.cut are short v low windows) (suc n.end) (copies_of z.state.taken) p.share
-            (subst (λ t. IsWholeShare n owners v t (z.history.motes windows) (copies_of z.state.taken) p.share) at_last p.keeps));
+            (subst (λ t. IsWholeShare n owners v t (z.history.motes windows) (copies_of z.state.taken) p.share) at_last (subst (λ l. IsWholeShare n owners v (bound width n.end windows) (z.history.motes windows) l p.share) arrived_all p.keeps)));
         gathered = λ s. sym (taken_gathered s) ∙ (ap (λ t. from s (taken_by t)) p.taker_is ∙ crossed_is s);
         waits = λ s. record { rest = []; all = sym (append-nil (from s (taken_by p.taker)) ∙ taken_gathered s); later = tt };
       }

@@ -1,11 +1,10 @@
 -- The items that a worker had taken before a window are a prefix of all that it took.
-use Rattle.std.proofs.Common.{◌≡◌, ℕ, zero, suc, ◌+◌, ◌-◌, ◌≤◌, List, [], ◌++◌, sym, ap, ◌∙◌, arith, append_assoc}
-use Rattle.std.proofs.Common.{append-nil}
-use Rattle.mote_net.specs.Net.{NetModel}
+use Rattle.std.proofs.Common.{◌≡◌, ℕ, zero, suc, ◌+◌, ◌-◌, ◌≤◌, List, [], ◌++◌, sym, ap, ◌∙◌, arith, append_assoc, append-nil}
+use Rattle.copy_inbox.proofs.Parts.{part-append}
+use Rattle.copy_inbox.specs.Items.{part}
 use Rattle.copy_inbox.specs.declared.items.Carried.{Carried}
 use Rattle.copy_inbox.specs.declared.items.Item.{Item}
-use Rattle.copy_inbox.specs.Items.{part}
-use Rattle.copy_inbox.proofs.Parts.{part-append}
+use Rattle.mote_net.specs.Net.{NetModel}
 use Rattle.window_workers.specs.MarkedWorkerHistory.{WorkerHistory, WorkerRunsWindows}
 
 module _ (n : NetModel) (owners : List ℕ) (width windows workers worker made : ℕ) (taken : List Item) (pushed : ℕ → List Carried) (history : WorkerHistory) (ran : WorkerRunsWindows n owners width windows workers worker made taken pushed history) where

@@ -1,9 +1,9 @@
 -- The copies of one mote in consecutive lists.
 use Rattle.std.proofs.Common.{◌≡◌, ℕ, zero, suc, ◌<◌, List, [], ◌∷◌, ◌++◌, refl, sym, ap, ◌∙◌, inl, inr, arith, append-nil}
 use Rattle.std.proofs.lemmas.Bool.{cases_eq}
-use Rattle.radio_packet.specs.declared.copy.RadioCopy.{RadioCopy}
-use Rattle.copy_exchange.specs.Pushes.{sent_before}
 use Rattle.copy_exchange.proofs.Parts.{from, from-append}
+use Rattle.copy_exchange.specs.Pushes.{sent_before}
+use Rattle.radio_packet.specs.declared.copy.RadioCopy.{RadioCopy}
 
 pub first_none : {X : Type 0} (xs ys : List X) → xs ++ ys ≡ [] → xs ≡ []
 first_none [] ys e = refl

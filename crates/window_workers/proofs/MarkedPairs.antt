@@ -1,26 +1,25 @@
 -- The items that each worker pushed into the inbox of another, and the copies of a mote among the items that a worker
 -- had taken before a window.
-use Rattle.std.proofs.Common.{◌≡◌, ◌≢◌, ◌⊎◌, ℕ, ◌<◌, ◌≤◌, false, eqb, List, [], ◌++◌, length, map, get_or, sym, ap}
-use Rattle.std.proofs.Common.{◌∙◌, subst, inl, inr, arith, append_assoc, Some}
-use Rattle.std.specs.List.{filter, slice_get, range_with_len, AllByRecursion as Each}
-use Rattle.std.specs.Option.{option_map_or}
+use Rattle.std.proofs.Common.{◌≡◌, ◌≢◌, ◌⊎◌, ℕ, ◌<◌, ◌≤◌, false, eqb, List, [], ◌++◌, length, map, get_or, sym, ap, ◌∙◌, subst, inl, inr, arith, append_assoc, Some}
 use Rattle.std.proofs.lemmas.Bool.{cases_lt, ne_eqb, false≢true}
 use Rattle.std.proofs.lemmas.List.FromFn.{get_or-range_with_len}
-use Rattle.radio_packet.specs.declared.copy.RadioCopy.{RadioCopy}
-use Rattle.mote_net.specs.Net.{NetModel}
-use Rattle.window_laws.specs.Windows.{is_from_sender}
-use Rattle.window_laws.proofs.Lists.{filter_filter, filter_none, every_weaker}
-use Rattle.copy_exchange.specs.Crossed.{is_own, is_to}
-use Rattle.copy_inbox.specs.Items.{copies_of, part, HasPrefix}
-use Rattle.copy_inbox.specs.Handles.{SenderView}
-use Rattle.copy_exchange.specs.Takers.{copies_in}
-use Rattle.copy_exchange.proofs.Parts.{from, from-append, copies_in-append, of_one_sender}
-use Rattle.copy_exchange.specs.Pushes.{pushes}
+use Rattle.std.specs.List.{filter, slice_get, range_with_len, AllByRecursion as Each}
+use Rattle.std.specs.Option.{option_map_or}
 use Rattle.copy_exchange.proofs.Early.{copies_pushes}
-use Rattle.worker_window.specs.Window.{IsOutgoing}
-use Rattle.window_workers.proofs.Lookups.{there, inside, read, mapped, same_found, each_at}
+use Rattle.copy_exchange.proofs.Parts.{from, from-append, copies_in-append, of_one_sender}
+use Rattle.copy_exchange.specs.Crossed.{is_own, is_to}
 use Rattle.copy_exchange.specs.Endpoints.{pushed_list}
-use Rattle.window_workers.specs.MarkedAll.{AllRan}
+use Rattle.copy_exchange.specs.Pushes.{pushes}
+use Rattle.copy_exchange.specs.Takers.{copies_in}
+use Rattle.copy_inbox.specs.Handles.{SenderView}
+use Rattle.copy_inbox.specs.Items.{copies_of, part, HasPrefix}
+use Rattle.mote_net.specs.Net.{NetModel}
+use Rattle.radio_packet.specs.declared.copy.RadioCopy.{RadioCopy}
+use Rattle.window_laws.proofs.Lists.{filter_filter, filter_none, every_weaker}
+use Rattle.window_laws.specs.Windows.{is_from_sender}
+use Rattle.worker_window.specs.Window.{IsOutgoing}
+use Rattle.window_workers.proofs.MarkedAll.{AllRan}
+use Rattle.window_workers.proofs.Lookups.{there, inside, read, mapped, same_found, each_at}
 use Rattle.window_workers.proofs.MarkedFronts.{part_begins}
 use Rattle.window_workers.proofs.MarkedLists.{first_none, none_before}
 

@@ -1,29 +1,29 @@
 -- The workers of a run with marks before their first windows, once their endpoints are made.
 use Rattle.std.proofs.Common.{◌≡◌, ℕ, suc, ◌<◌, true, List, [], ◌∷◌, length, map, refl, sym, ap, ◌∙◌, subst, arith, Some}
 use Rattle.std.specs.List.{slice_get, zip, AllZip, AllByRecursion as Each}
-use Rattle.mote_net.specs.Net.{NetModel}
-use Rattle.window_laws.specs.Windows.{first_mote}
-use Rattle.net_agenda.specs.NetSystem.{system_of}
-use Rattle.copy_inbox.specs.declared.rule.TakerState.{TakerState}
-use Rattle.copy_inbox.specs.Handles.{InboxId, TakerView}
-use Rattle.copy_inbox.specs.Views.{make_taker_state}
-use Rattle.copy_exchange.specs.declared.endpoint.Endpoint.{Endpoint}
+use Rattle.copy_exchange.proofs.Open.{made_for_others}
 use Rattle.copy_exchange.specs.Endpoints.{HasMarks, HasPushedNothing, IsEndpoint, StartsAs, Together}
 use Rattle.copy_exchange.specs.Inboxes.{IsFresh}
-use Rattle.copy_exchange.proofs.Open.{made_for_others}
-use Rattle.worker_window.specs.declared.share.Share.{Share}
-use Rattle.worker_window.specs.Share.{IsWholeShare}
+use Rattle.copy_exchange.specs.declared.endpoint.Endpoint.{Endpoint}
+use Rattle.copy_inbox.specs.Handles.{InboxId, TakerView}
+use Rattle.copy_inbox.specs.Views.{make_taker_state}
+use Rattle.copy_inbox.specs.declared.rule.TakerState.{TakerState}
+use Rattle.mote_net.specs.Net.{NetModel}
+use Rattle.net_agenda.specs.NetSystem.{system_of}
+use Rattle.window_laws.specs.Windows.{first_mote}
+use Rattle.window_workers.specs.MarkedRun.{endpoints_of}
+use Rattle.window_workers.specs.MarkedThread.{IsBeforeFirstWindow}
 use Rattle.window_workers.specs.Start.{AreFirst}
-use Rattle.window_workers.specs.WorkerGroup.{IsCut}
 use Rattle.window_workers.specs.Threads.{AreMade}
 use Rattle.window_workers.specs.Worker.{make_worker}
+use Rattle.window_workers.specs.WorkerGroup.{IsCut}
 use Rattle.window_workers.specs.declared.worker.Worker.{Worker}
+use Rattle.worker_window.specs.Share.{IsWholeShare}
+use Rattle.worker_window.specs.declared.share.Share.{Share}
 use Rattle.window_workers.proofs.Lookups.{there, inside, read, beside, as_long, each_at, each_from, each_zipped}
 use Rattle.window_workers.proofs.Lookups.{same_found}
 use Rattle.window_workers.proofs.Numbered.{numbered}
 use Rattle.window_workers.proofs.Starts.{fresh_at}
-use Rattle.window_workers.specs.MarkedRun.{endpoints_of}
-use Rattle.window_workers.specs.MarkedThread.{IsBeforeFirstWindow}
 
 -- each worker has the endpoint that was made for it
 same_endpoints : (shares : List Share) (endpoints : List Endpoint) → length endpoints ≡ length shares

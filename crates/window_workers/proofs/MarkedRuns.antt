@@ -1,36 +1,34 @@
 -- All workers at the end of their threads, put together.
-use Rattle.std.proofs.Common.{◌≡◌, ℕ, suc, ◌<◌, ◌≤◌, List, [], ◌∷◌, length, map, get_or, refl, sym, ap, ◌∙◌, subst}
-use Rattle.std.proofs.Common.{Option, Some}
-use Rattle.std.specs.List.{slice_get, range_with_len, AllZip, AllByRecursion as Each}
+use Rattle.std.proofs.Common.{◌≡◌, ℕ, suc, ◌<◌, ◌≤◌, List, [], ◌∷◌, length, map, get_or, refl, sym, ap, ◌∙◌, subst, Option, Some}
 use Rattle.std.proofs.lemmas.List.{length-map}
 use Rattle.std.proofs.lemmas.List.FromFn.{length-range_with_len}
-use Rattle.mote_net.specs.Net.{NetModel}
-use Rattle.window_laws.specs.Forward.{RunsForward}
-use Rattle.window_laws.proofs.Lists.{every_weaker}
-use Rattle.net_agenda.specs.NetSystem.{system_of}
-use Rattle.copy_inbox.specs.declared.items.Carried.{Carried}
-use Rattle.copy_inbox.specs.Gathered.{Whole}
-use Rattle.copy_inbox.specs.Items.{HasPrefix, part}
-use Rattle.copy_inbox.specs.Handles.{InboxId, TakerView, SenderView, after_gather}
-use Rattle.copy_exchange.specs.declared.endpoint.Endpoint.{Endpoint}
-use Rattle.copy_exchange.specs.Endpoints.{IsOnInboxes, Stays, Together, pushed_list, pushed_to, senders_to}
-use Rattle.copy_exchange.specs.Steps.{AgreesWithSender, gather_senders}
-use Rattle.copy_exchange.proofs.Gathers.{gather_is}
+use Rattle.std.specs.List.{slice_get, range_with_len, AllZip, AllByRecursion as Each}
 use Rattle.copy_exchange.proofs.AfterWindow.{same_workers}
+use Rattle.copy_exchange.proofs.Gathers.{gather_is}
 use Rattle.copy_exchange.proofs.Open.{SendersOfOthers, are_senders, sender_of, sender_is}
-use Rattle.worker_window.specs.declared.share.Share.{Share}
-use Rattle.window_workers.specs.declared.group.WorkerGroup.{WorkerGroup}
-use Rattle.window_workers.specs.WorkerGroup.{WorkersAreAt}
-use Rattle.window_workers.specs.WorkerGroup.{IsCut}
-use Rattle.window_workers.proofs.Lookups.{there, read, mapped, beside, as_long}
-use Rattle.window_workers.proofs.Numbered.{numbered}
-use Rattle.window_workers.specs.declared.worker.Worker.{Worker}
-use Rattle.window_workers.specs.MarkedBounds.{windows_of}
+use Rattle.copy_exchange.specs.Endpoints.{IsOnInboxes, Stays, Together, pushed_list, pushed_to, senders_to}
+use Rattle.copy_exchange.specs.declared.endpoint.Endpoint.{Endpoint}
+use Rattle.copy_inbox.specs.Gathered.{Whole}
+use Rattle.copy_inbox.specs.Handles.{InboxId, TakerView, SenderView, after_gather}
+use Rattle.copy_inbox.specs.Items.{HasPrefix, part}
+use Rattle.copy_inbox.specs.declared.items.Carried.{Carried}
+use Rattle.mote_net.specs.Net.{NetModel}
+use Rattle.net_agenda.specs.NetSystem.{system_of}
+use Rattle.window_laws.proofs.Lists.{every_weaker}
+use Rattle.window_laws.specs.Forward.{RunsForward}
 use Rattle.window_workers.specs.MarkedAtEnd.{EndsMarked, EndAllMarked}
+use Rattle.window_workers.specs.MarkedBounds.{windows_of}
 use Rattle.window_workers.specs.MarkedRun.{GroupRunsMarked, endpoints_of}
 use Rattle.window_workers.specs.MarkedSenders.{AreSenders}
-use Rattle.window_workers.specs.MarkedWorkerHistory.{WorkerRunsMarked}
 use Rattle.window_workers.specs.MarkedThread.{WorkerRunsAllWindows}
+use Rattle.window_workers.specs.MarkedWorkerHistory.{WorkerRunsMarked}
+use Rattle.window_workers.specs.WorkerGroup.{WorkersAreAt, IsCut}
+use Rattle.window_workers.specs.declared.group.WorkerGroup.{WorkerGroup}
+use Rattle.window_workers.specs.declared.worker.Worker.{Worker}
+use Rattle.worker_window.specs.declared.share.Share.{Share}
+use Rattle.copy_exchange.specs.Steps.{AgreesWithSender, gather_senders}
+use Rattle.window_workers.proofs.Lookups.{there, read, mapped, beside, as_long}
+use Rattle.window_workers.proofs.Numbered.{numbered}
 use Rattle.window_workers.proofs.MarkedBounds.{are_windows}
 use Rattle.window_workers.proofs.MarkedEnds.{ends}
 

@@ -1,25 +1,24 @@
 -- The copies that a window sees among those that had been taken: the copies that were sent before it, and none that
 -- arrived early.
-use Rattle.std.proofs.Common.{◌≡◌, ◌≢◌, ℕ, suc, ◌+◌, ◌-◌, ◌<◌, ◌≤◌, Bool, true, false, ◌&&◌, ltb, eqb, List, []}
-use Rattle.std.proofs.Common.{length, refl, sym, ap, ◌∙◌, subst, arith, Option, Some, None}
+use Rattle.std.proofs.Common.{◌≡◌, ◌≢◌, ℕ, suc, ◌+◌, ◌-◌, ◌<◌, ◌≤◌, Bool, true, false, ◌&&◌, ltb, eqb, List, [], length, refl, sym, ap, ◌∙◌, subst, arith, Option, Some, None}
+use Rattle.std.proofs.lemmas.Bool.{le-ltb, false≢true}
 use Rattle.std.specs.List.{filter, slice_get, AllByRecursion as Each}
 use Rattle.std.specs.Option.{option_map_or}
-use Rattle.std.proofs.lemmas.Bool.{le-ltb, false≢true}
-use Rattle.radio_packet.specs.declared.copy.RadioCopy.{RadioCopy}
-use Rattle.mote_net.specs.Net.{NetModel}
-use Rattle.window_laws.specs.Windows.{is_from_sender, is_within}
-use Rattle.window_laws.proofs.Lists.{filter_filter, every_filter}
-use Rattle.copy_exchange.specs.Crossed.{is_own, is_to}
-use Rattle.copy_inbox.specs.Items.{copies_of, part}
-use Rattle.copy_exchange.proofs.Parts.{from}
-use Rattle.copy_exchange.specs.Takers.{copies_in}
-use Rattle.copy_exchange.specs.Pushes.{sent_before}
 use Rattle.copy_exchange.proofs.Early.{early_is_unseen}
+use Rattle.copy_exchange.proofs.Parts.{from}
+use Rattle.copy_exchange.specs.Crossed.{is_own, is_to}
+use Rattle.copy_exchange.specs.Pushes.{sent_before}
+use Rattle.copy_exchange.specs.Takers.{copies_in}
+use Rattle.copy_inbox.specs.Items.{copies_of, part}
+use Rattle.mote_net.specs.Net.{NetModel}
+use Rattle.radio_packet.specs.declared.copy.RadioCopy.{RadioCopy}
+use Rattle.window_laws.proofs.Lists.{filter_filter, every_filter}
+use Rattle.window_laws.specs.Windows.{is_from_sender, is_within}
+use Rattle.window_workers.specs.MarkedBounds.{bound, AreWindows}
 use Rattle.window_workers.specs.WorkerGroup.{IsCut}
+use Rattle.window_workers.proofs.MarkedAll.{AllRan}
 use Rattle.window_workers.proofs.Lookups.{each_at}
 use Rattle.window_workers.proofs.Step.{own_by}
-use Rattle.window_workers.specs.MarkedBounds.{bound, AreWindows}
-use Rattle.window_workers.specs.MarkedAll.{AllRan}
 use Rattle.window_workers.proofs.MarkedBounds.{no_sooner}
 use Rattle.window_workers.proofs.MarkedLists.{none_before, only_before}
 use Rattle.window_workers.proofs.MarkedPairs.{sent_to, none_sent, not_other, pair, front, copies_from, copies_none}

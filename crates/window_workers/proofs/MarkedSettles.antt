@@ -1,31 +1,29 @@
 -- At the end, all items that were pushed are taken, and the inboxes are settled.
-use Rattle.std.proofs.Common.{◌≡◌, ◌≢◌, ◌⊎◌, ℕ, ◌<◌, ◌≤◌, false, List, [], ◌∷◌, ◌++◌, length, drop, refl, sym, ap, ◌∙◌}
-use Rattle.std.proofs.Common.{subst, inl, inr, arith, append-nil, Option, Some, None}
-use Rattle.std.specs.List.{slice_get, AllByRecursion as Each}
-use Rattle.std.proofs.lemmas.Bool.{cases_eq, cases_lt, false≢true}
+use Rattle.std.proofs.Common.{◌≡◌, ◌≢◌, ◌⊎◌, ℕ, ◌<◌, ◌≤◌, false, List, [], ◌∷◌, ◌++◌, length, drop, refl, sym, ap, ◌∙◌, subst, inl, inr, arith, append-nil, Option, Some, None}
 use Rattle.std.proofs.Math.Seq.{drop-length}
-use Rattle.mote_net.specs.Net.{NetModel}
-use Rattle.window_laws.proofs.Lists.{every_weaker}
-use Rattle.copy_exchange.specs.Crossed.{is_own}
-use Rattle.copy_inbox.specs.declared.items.Item.{Item}
-use Rattle.copy_inbox.specs.declared.rule.TakerState.{TakerState}
-use Rattle.copy_inbox.specs.declared.rule.Gathered.{Gathered}
-use Rattle.copy_inbox.specs.Items.{copies_of, Packets, part, HasPrefix, OfMade}
-use Rattle.copy_inbox.specs.Gathered.{is_gathered, untaken_of, Whole}
-use Rattle.copy_inbox.specs.Handles.{TakerView, SenderView, after_gather, AllGathered, PacketsLeft}
-use Rattle.copy_exchange.specs.Endpoints.{AreOpen, pushed_list}
-use Rattle.copy_exchange.specs.Takers.{copies_gathered, copies_in, IsOrderly}
-use Rattle.copy_exchange.proofs.Gathers.{OneOf, copies_by, as_gathered, joined, with_joined, all_gathered}
-use Rattle.copy_exchange.proofs.Gathers.{orderly_then}
+use Rattle.std.proofs.lemmas.Bool.{cases_eq, cases_lt, false≢true}
+use Rattle.std.specs.List.{slice_get, AllByRecursion as Each}
+use Rattle.copy_exchange.proofs.Early.{copies_pushes}
 use Rattle.copy_exchange.proofs.Parts.{from}
 use Rattle.copy_exchange.proofs.Windows.{none_left}
+use Rattle.copy_exchange.specs.Crossed.{is_own}
+use Rattle.copy_exchange.specs.Endpoints.{AreOpen, pushed_list}
 use Rattle.copy_exchange.specs.Pushes.{pushes, marks_in}
-use Rattle.copy_exchange.proofs.Early.{copies_pushes}
-use Rattle.copy_exchange.proofs.Whole.{all_is_taken}
-use Rattle.window_workers.specs.WorkerGroup.{IsCut}
-use Rattle.window_workers.proofs.Lookups.{each_at, each_from}
+use Rattle.copy_exchange.specs.Takers.{copies_gathered, copies_in, IsOrderly}
+use Rattle.copy_inbox.specs.Gathered.{is_gathered, untaken_of, Whole}
+use Rattle.copy_inbox.specs.Handles.{TakerView, SenderView, after_gather, AllGathered, PacketsLeft}
+use Rattle.copy_inbox.specs.Items.{copies_of, Packets, part, HasPrefix, OfMade}
+use Rattle.copy_inbox.specs.declared.items.Item.{Item}
+use Rattle.copy_inbox.specs.declared.rule.Gathered.{Gathered}
+use Rattle.copy_inbox.specs.declared.rule.TakerState.{TakerState}
+use Rattle.mote_net.specs.Net.{NetModel}
+use Rattle.window_laws.proofs.Lists.{every_weaker}
 use Rattle.window_workers.specs.MarkedSenders.{AreSenders}
-use Rattle.window_workers.specs.MarkedAll.{AllRan}
+use Rattle.window_workers.specs.WorkerGroup.{IsCut}
+use Rattle.window_workers.proofs.MarkedAll.{AllRan}
+use Rattle.copy_exchange.proofs.Gathers.{copies_by, OneOf, as_gathered, joined, with_joined, all_gathered, orderly_then}
+use Rattle.copy_exchange.proofs.Whole.{all_is_taken}
+use Rattle.window_workers.proofs.Lookups.{each_at, each_from}
 use Rattle.window_workers.proofs.MarkedLists.{none_before}
 use Rattle.window_workers.proofs.MarkedPairs.{sent_to, none_sent, not_other, Pair, pair}
 use Rattle.window_workers.proofs.MarkedSeen.{nobodys}

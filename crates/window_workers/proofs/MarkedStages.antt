@@ -1,29 +1,28 @@
 -- All motes before each window: the windows of all workers are windows as in the law of windows.
-use Rattle.std.proofs.Common.{◌≡◌, ℕ, zero, suc, ◌+◌, ◌<◌, ◌≤◌, true, List, [], ◌++◌, length, refl, sym, ap, ◌∙◌}
-use Rattle.std.proofs.Common.{subst, inl, inr, arith, append-nil, Option, Some, None}
+use Rattle.std.proofs.Common.{◌≡◌, ℕ, zero, suc, ◌+◌, ◌<◌, ◌≤◌, true, List, [], ◌++◌, length, refl, sym, ap, ◌∙◌, subst, inl, inr, arith, append-nil, Option, Some, None}
+use Rattle.std.proofs.lemmas.Bool.{cases_Bool}
 use Rattle.std.specs.List.{filter, slice_get}
 use Rattle.std.specs.Option.{option_map_or}
-use Rattle.std.proofs.lemmas.Bool.{cases_Bool}
-use Rattle.radio_packet.specs.declared.copy.RadioCopy.{RadioCopy}
-use Rattle.mote_net.specs.Net.{NetModel}
-use Rattle.window_laws.specs.Forward.{RunsForward}
-use Rattle.window_laws.specs.Windows.{Alone, first_mote, Windows, is_at, Last}
-use Rattle.net_agenda.specs.NetSystem.{system_of}
+use Rattle.copy_exchange.proofs.Parts.{from, from-append}
 use Rattle.copy_exchange.specs.Crossed.{is_own, is_to, copies_seen, is_for_others}
 use Rattle.copy_exchange.specs.CutLaws.{GatheredCopies}
-use Rattle.copy_inbox.specs.Items.{copies_of}
-use Rattle.copy_exchange.proofs.Parts.{from, from-append}
 use Rattle.copy_exchange.specs.Pushes.{sent_before}
+use Rattle.mote_net.specs.Net.{NetModel}
+use Rattle.net_agenda.specs.NetSystem.{system_of}
+use Rattle.radio_packet.specs.declared.copy.RadioCopy.{RadioCopy}
+use Rattle.window_laws.specs.Forward.{RunsForward}
+use Rattle.window_laws.specs.Windows.{Alone, first_mote, Windows, is_at, Last}
+use Rattle.window_workers.specs.MarkedBounds.{bound, AreWindows}
+use Rattle.window_workers.specs.WorkerGroup.{IsCut}
 use Rattle.worker_window.specs.Share.{Motes}
 use Rattle.worker_window.specs.Window.{RunsOwnMote, outgoing_by}
-use Rattle.window_workers.specs.WorkerGroup.{IsCut}
+use Rattle.window_workers.proofs.MarkedAll.{AllRan}
 use Rattle.window_workers.proofs.Lookups.{each_at}
 use Rattle.window_workers.proofs.Same.{own_copies_same}
 use Rattle.window_workers.proofs.Starts.{none_crossed}
 use Rattle.window_workers.proofs.Step.{own_of, led_next, traced_next}
-use Rattle.window_workers.specs.MarkedBounds.{bound, AreWindows}
-use Rattle.window_workers.specs.MarkedAll.{AllRan}
 use Rattle.window_workers.proofs.MarkedBounds.{at_first, begins_before, no_wider}
+use Rattle.window_workers.proofs.MarkedExpected.{all_arrived}
 use Rattle.window_workers.proofs.MarkedLists.{none_before}
 use Rattle.window_workers.proofs.MarkedPairs.{sent_to}
 use Rattle.window_workers.proofs.MarkedSeen.{sent_so_far, of_worker, of_nobody, sees, seen}
@@ -63,11 +62,11 @@ module _ (n : NetModel) (fine : RunsForward (system_of n)) (owners : List ℕ) (
     -- the copies that the worker had and that the window can see for a mote are exactly those that were sent before
     -- the window
     same_known : (v : ℕ) → v < workers → (m s : ℕ)
-        → filter (sees n owners width windows workers all cut are k m) (copies_seen (system_of n) (is_own owners v) ((all.histories v).motes k) (copies_of ((all.histories v).taken k)) s)
+        → filter (sees n owners width windows workers all cut are k m) (copies_seen (system_of n) (is_own owners v) ((all.histories v).motes k) ((all.histories v).arrived k) s)
         ≡ filter (sees n owners width windows workers all cut are k m) (copies_seen (system_of n) (is_own owners v) (stage k) (so_far v k) s)
     same_known v lv m s = elim (cases_Bool (is_own owners v s)) [
       | inl e ↦ rw e (ap (filter (sees n owners width windows workers all cut are k m)) (own_copies_same n owners v ((all.histories v).motes k) (stage k) (own_stage v lv k) s e))
-      | inr e ↦ rw e (seen n owners width windows workers all cut are v lv k low m s e)
+      | inr e ↦ rw e (ap (λ l. filter (sees n owners width windows workers all cut are k m) (from s l)) (all_arrived n owners width windows workers all are v lv k (omega arith)) ∙ seen n owners width windows workers all cut are v lv k low m s e)
     ]
 
     own_runs : (v : ℕ) → v < workers → (m : ℕ) → is_own owners v m ≡ true → RunsOwnMote n (is_own owners v) start until (stage k) ((all.histories v).motes (suc k)) (so_far v k) m

@@ -1,32 +1,33 @@
 -- The windows of a worker, one after another, and the effect of each by the promise of its thread.
-use Rattle.std.proofs.Common.{◌≡◌, ◌≢◌, ◌==◌, ℕ, suc, ◌<◌, ◌≤◌, List, [], ◌∷◌, ◌++◌, length, get_or, map, refl, sym}
-use Rattle.std.proofs.Common.{ap, ◌∙◌, subst, arith, None}
-use Rattle.std.specs.List.{filter, AllByRecursion as Each}
+use Rattle.std.proofs.Common.{◌≡◌, ◌≢◌, ◌==◌, ℕ, suc, ◌<◌, ◌≤◌, List, [], ◌∷◌, ◌++◌, length, get_or, map, refl, sym, ap, ◌∙◌, subst, arith, None, true}
 use Rattle.std.proofs.lemmas.Bool.{ne_eqb}
-use Rattle.radio_packet.specs.declared.copy.RadioCopy.{RadioCopy}
-use Rattle.mote_net.specs.Net.{NetModel}
-use Rattle.window_laws.proofs.Lists.{every_weaker}
-use Rattle.net_agenda.specs.NetSystem.{system_of}
+use Rattle.std.specs.List.{filter, AllByRecursion as Each}
+use Rattle.copy_exchange.proofs.Delivered.{stays_on}
+use Rattle.copy_exchange.proofs.Expected.{passes_expected}
+use Rattle.copy_exchange.proofs.Marked.{stays_same}
 use Rattle.copy_exchange.specs.Crossed.{is_to, IsExpected}
+use Rattle.copy_exchange.specs.Endpoints.{IsOnInboxes, Stays, pushed_list, pushed_to}
+use Rattle.copy_exchange.specs.Expected.{expected_in, is_expected, position}
+use Rattle.copy_exchange.specs.Pushes.{marks_in}
+use Rattle.copy_inbox.proofs.Parts.{part-append, part-else}
+use Rattle.copy_inbox.specs.Handles.{InboxId, TakerView, after_taking}
+use Rattle.copy_inbox.specs.Items.{copies_of, part, OfMade}
 use Rattle.copy_inbox.specs.declared.items.Carried.{Carried}
-use Rattle.copy_inbox.specs.declared.items.Carried.TheVariants.{Packet, Mark}
 use Rattle.copy_inbox.specs.declared.items.Item.{Item}
 use Rattle.copy_inbox.specs.declared.rule.TakerState.{TakerState}
-use Rattle.copy_inbox.specs.Items.{copies_of, part, OfMade}
-use Rattle.copy_inbox.specs.Handles.{InboxId, TakerView, after_taking}
-use Rattle.copy_inbox.proofs.Parts.{part-append, part-else}
-use Rattle.copy_exchange.specs.Endpoints.{IsOnInboxes, Stays, pushed_list, pushed_to}
-use Rattle.copy_exchange.proofs.Delivered.{stays_on}
-use Rattle.copy_exchange.proofs.Marked.{stays_same}
-use Rattle.copy_exchange.specs.Pushes.{marks_in}
-use Rattle.copy_exchange.proofs.MarksDelivered.{takes_stays, takes_on_inboxes}
-use Rattle.worker_window.specs.Share.{IsWholeShare}
-use Rattle.worker_window.specs.Window.{CanRun, IsOutgoing, RunsWindow}
+use Rattle.mote_net.specs.Net.{NetModel}
+use Rattle.net_agenda.specs.NetSystem.{system_of}
+use Rattle.radio_packet.specs.declared.copy.RadioCopy.{RadioCopy}
+use Rattle.window_laws.proofs.Lists.{every_passes, every_weaker}
+use Rattle.window_workers.specs.MarkedBounds.{bound, windows_of, AreWindows}
+use Rattle.window_workers.specs.MarkedThread.{IsBeforeFirstWindow, SendsWindow, TakesWindow, WorkerRunsAllWindows}
+use Rattle.window_workers.specs.MarkedWorkerHistory.{WorkerRunsMarked}
 use Rattle.window_workers.specs.WorkerGroup.{IsCut}
 use Rattle.window_workers.specs.declared.worker.Worker.{Worker}
-use Rattle.window_workers.specs.MarkedBounds.{bound, windows_of, AreWindows}
-use Rattle.window_workers.specs.MarkedWorkerHistory.{WorkerRunsMarked}
-use Rattle.window_workers.specs.MarkedThread.{IsBeforeFirstWindow, SendsWindow, TakesWindow, WorkerRunsAllWindows}
+use Rattle.worker_window.specs.Share.{IsWholeShare}
+use Rattle.worker_window.specs.Window.{CanRun, IsOutgoing, RunsWindow}
+use Rattle.copy_inbox.specs.declared.items.Carried.TheVariants.{Packet, Mark}
+use Rattle.copy_exchange.proofs.MarksDelivered.{takes_stays, takes_on_inboxes}
 use Rattle.window_workers.proofs.MarkedBounds.{are_windows, begins_before, no_wider}
 use Rattle.window_workers.proofs.MarkedPromise.{promise_first, promise_next}
 
@@ -73,12 +74,12 @@ module _ (n : NetModel) (owners : List ℕ) (width k until : ℕ) (inboxes : Lis
     abbrev more : List Item
     more = takes.took.items
 
-    ran : RunsWindow n owners worker (bound width n.end k) until (in_state.promise.history.motes k) (copies_of state.taken) between.share sends.outgoing
+    ran : RunsWindow n owners worker (bound width n.end k) until (in_state.promise.history.motes k) (in_state.promise.history.arrived k) between.share sends.outgoing
     ran =
         let b = no_wider width n.end (windows_of width n.end) are k low in
         let e = at in
         let s = short in
-        sends.runs worker (bound width n.end k) (in_state.promise.history.motes k) (copies_of state.taken) in_state.promise.keeps up (omega arith)
+        sends.runs worker (bound width n.end k) (in_state.promise.history.motes k) (in_state.promise.history.arrived k) in_state.promise.keeps up (omega arith)
 
     goes : Each (IsOutgoing n owners worker) sends.outgoing
     goes = subst (λ w. Each (IsOutgoing n owners w) sends.outgoing) in_state.promise.keeps.is_worker sends.out
@@ -106,12 +107,20 @@ module _ (n : NetModel) (owners : List ℕ) (width k until : ℕ) (inboxes : Lis
         ap (λ s. pushed_list (get_or s.items v None)) takes.senders
         ∙ sends.pushes.pushes v there (ap (λ w. v == w) in_state.stays.worker ∙ ne_eqb v worker other)
 
-    arrived_come : Each (IsExpected owners worker until) takes.arrived
-    arrived_come = subst (λ w. Each (IsExpected owners w until) takes.arrived) (sends.pushes.stays.worker ∙ in_state.stays.worker) takes.took.expected
+    abbrev arrived_by : ℕ → List RadioCopy
+    arrived_by t = expected_in (position owners worker t) more
 
-    keeps : IsWholeShare n owners worker until ran.next (copies_of state.taken ++ copies_of more) new.share
-    keeps = subst (λ l. IsWholeShare n owners worker until ran.next (copies_of state.taken ++ l) new.share) takes.took.arrived
-        (takes.keeps n owners worker until ran.next (copies_of state.taken) ran.keeps arrived_come)
+    arrived_is : takes.arrived ≡ arrived_by until
+    arrived_is = takes.took.arrived ∙ ap (λ w. expected_in (position owners w until) more) (sends.pushes.stays.worker ∙ in_state.stays.worker)
+
+    arrived_come : Each (IsExpected owners worker until) takes.arrived
+    arrived_come = subst (λ l. Each (IsExpected owners worker until) l) (sym arrived_is)
+        (every_weaker (λ c. is_expected (position owners worker until) c ≡ true) (IsExpected owners worker until) (passes_expected (position owners worker until)) (arrived_by until)
+        (every_passes (is_expected (position owners worker until)) (copies_of more)))
+
+    keeps : IsWholeShare n owners worker until ran.next (in_state.promise.history.arrived k ++ arrived_by until) new.share
+    keeps = subst (λ l. IsWholeShare n owners worker until ran.next (in_state.promise.history.arrived k ++ l) new.share) arrived_is
+        (takes.keeps n owners worker until ran.next (in_state.promise.history.arrived k) ran.keeps arrived_come)
 
     stays : Stays old.endpoint new.endpoint
     stays = stays_on old.endpoint between.endpoint new.endpoint sends.pushes.stays
@@ -125,8 +134,8 @@ module _ (n : NetModel) (owners : List ℕ) (width k until : ℕ) (inboxes : Lis
     }
       where
         Ran : ℕ → Type 0
-        Ran t = (r : RunsWindow n owners worker (bound width n.end k) t (in_state.promise.history.motes k) (copies_of state.taken) between.share sends.outgoing)
-            × IsWholeShare n owners worker t r.next (copies_of state.taken ++ copies_of more) new.share
+        Ran t = (r : RunsWindow n owners worker (bound width n.end k) t (in_state.promise.history.motes k) (in_state.promise.history.arrived k) between.share sends.outgoing)
+            × IsWholeShare n owners worker t r.next (in_state.promise.history.arrived k ++ arrived_by t) new.share
 
         ran_to : Ran (bound width n.end (suc k))
         ran_to = subst Ran at (ran, keeps)

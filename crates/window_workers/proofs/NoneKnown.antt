@@ -1,12 +1,12 @@
 -- With marks, nothing is left in the inboxes.
 use Rattle.std.proofs.Common.{◌≡◌, List, [], ◌∷◌, length, drop, refl, ap, ◌∙◌, arith}
-use Rattle.std.specs.List.{zip, AllByRecursion as Each}
-use Rattle.std.proofs.lemmas.List.Sums.{sum_by-cons}
 use Rattle.std.proofs.Math.Seq.{drop-length}
-use Rattle.copy_inbox.specs.declared.items.Item.{Item}
-use Rattle.copy_inbox.specs.declared.rule.Gathered.{Gathered}
+use Rattle.std.proofs.lemmas.List.Sums.{sum_by-cons}
+use Rattle.std.specs.List.{zip, AllByRecursion as Each}
 use Rattle.copy_inbox.specs.Gathered.{known_of, untaken_of, Whole}
 use Rattle.copy_inbox.specs.Handles.{InboxId, TakerView}
+use Rattle.copy_inbox.specs.declared.items.Item.{Item}
+use Rattle.copy_inbox.specs.declared.rule.Gathered.{Gathered}
 use Rattle.window_workers.specs.Crossed.{Pair}
 
 -- if all items that were pushed are taken, no item is known

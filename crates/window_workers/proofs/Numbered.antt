@@ -1,7 +1,7 @@
 -- Each worker's endpoint is at the place of its number.
 use Rattle.std.proofs.Common.{◌≡◌, ℕ, ◌<◌, List, map, get_or, sym, ap, ◌∙◌, arith, Some}
-use Rattle.std.specs.List.{slice_get, range_with_len}
 use Rattle.std.proofs.lemmas.List.FromFn.{get_or-range_with_len}
+use Rattle.std.specs.List.{slice_get, range_with_len}
 use Rattle.copy_exchange.specs.declared.endpoint.Endpoint.{Endpoint}
 use Rattle.window_workers.proofs.Lookups.{read, mapped}
 

@@ -1,9 +1,9 @@
 -- Lists side by side, and lists of pairs.
 use Rattle.std.proofs.Common.{◌≡◌, ℕ, zero, suc, ◌≤◌, List, [], ◌∷◌, length, map, refl, ap, arith, Some, None, Result, Ok, Err}
-use Rattle.std.specs.Prelude.{IfOk, IsPermutation}
-use Rattle.std.specs.List.{zip, slice_get, AllByRecursion as Each, AllZip}
 use Rattle.std.proofs.lemmas.List.Elements.{All-from_recursion, recursion_from_All}
 use Rattle.std.proofs.lemmas.List.Sorted.{All-permutation}
+use Rattle.std.specs.List.{zip, slice_get, AllByRecursion as Each, AllZip}
+use Rattle.std.specs.Prelude.{IfOk, IsPermutation}
 
 module _ {A B : Type 0} where
   pub each_zip : (R : A → B → Type 0) (xs : List A) (ys : List B) → AllZip R xs ys → Each (λ (p : A × B). R p.0 p.1) (zip xs ys)

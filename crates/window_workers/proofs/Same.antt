@@ -1,19 +1,19 @@
 -- The contents of a share depend only on the motes of its worker.
 use Rattle.std.proofs.Common.{◌≡◌, ℕ, true, false, cond, ltb, List, [], refl, ap, ◌∙◌, subst, inl, inr}
-use Rattle.std.specs.Prelude.{IsSomeAnd}
-use Rattle.std.specs.List.{filter, flat_map}
 use Rattle.std.proofs.lemmas.Bool.{cases_Bool}
-use Rattle.radio_packet.specs.declared.sent.Sent.{Sent}
-use Rattle.mote_node.specs.Turn.{is_past, wake_of}
-use Rattle.radio_packet.specs.declared.copy.RadioCopy.{RadioCopy}
-use Rattle.mote_net.specs.Net.{NetModel}
-use Rattle.window_laws.specs.Agenda.{Item, wake_items}
-use Rattle.window_laws.specs.Windows.{NoneBefore, copies_by}
-use Rattle.net_agenda.specs.NetSystem.{system_of, tree_at}
-use Rattle.worker_window.specs.declared.share.Share.{Share}
+use Rattle.std.specs.List.{filter, flat_map}
+use Rattle.std.specs.Prelude.{IsSomeAnd}
 use Rattle.copy_exchange.specs.Crossed.{is_own, copies_seen}
-use Rattle.worker_window.specs.MoteWindow.{node_number}
+use Rattle.mote_net.specs.Net.{NetModel}
+use Rattle.net_agenda.specs.NetSystem.{system_of, tree_at}
+use Rattle.radio_packet.specs.declared.copy.RadioCopy.{RadioCopy}
+use Rattle.radio_packet.specs.declared.sent.Sent.{Sent}
+use Rattle.window_laws.specs.Windows.{NoneBefore, copies_by}
 use Rattle.worker_window.specs.Share.{Motes, IsBetweenWindows, IsWholeShare, is_to_come, mote_here, wake_from}
+use Rattle.worker_window.specs.declared.share.Share.{Share}
+use Rattle.mote_node.specs.Turn.{is_past, wake_of}
+use Rattle.window_laws.specs.Agenda.{Item, wake_items}
+use Rattle.worker_window.specs.MoteWindow.{node_number}
 
 module _ (n : NetModel) (owners : List ℕ) (worker : ℕ) (a b : Motes) (same : (k : ℕ) → is_own owners worker k ≡ true → a k ≡ b k) where
   own_sends : (s : ℕ) → cond (is_own owners worker s) (a s).sends [] ≡ cond {A = List Sent} (is_own owners worker s) (b s).sends []

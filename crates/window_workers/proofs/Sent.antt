@@ -1,17 +1,16 @@
 -- Outgoing copies are for motes of other workers; and a property of the copies of each sender is a property of all
 -- copies.
-use Rattle.std.proofs.Common.{◌≡◌, ℕ, zero, suc, ◌<◌, true, eqb, List, [], ◌∷◌, length, refl, sym, subst, arith, inl}
-use Rattle.std.proofs.Common.{inr}
-use Rattle.std.specs.Prelude.{slice_index}
+use Rattle.std.proofs.Common.{◌≡◌, ℕ, zero, suc, ◌<◌, true, eqb, List, [], ◌∷◌, length, refl, sym, subst, arith, inl, inr}
 use Rattle.std.specs.List.{filter, AllByRecursion as Each}
-use Rattle.std.proofs.lemmas.Bool.{cases_Bool, eq-eqb}
-use Rattle.radio_packet.specs.declared.copy.RadioCopy.{RadioCopy}
-use Rattle.mote_net.specs.Net.{NetModel}
 use Rattle.copy_exchange.specs.Endpoints.{Leaves}
-use Rattle.window_laws.specs.Windows.{is_from_sender}
-use Rattle.worker_window.specs.Window.{IsOutgoing}
+use Rattle.mote_net.specs.Net.{NetModel}
+use Rattle.radio_packet.specs.declared.copy.RadioCopy.{RadioCopy}
 use Rattle.window_laws.proofs.Lists.{every_weaker}
+use Rattle.window_laws.specs.Windows.{is_from_sender}
 use Rattle.window_workers.specs.WorkerGroup.{IsCut}
+use Rattle.worker_window.specs.Window.{IsOutgoing}
+use Rattle.std.specs.Prelude.{slice_index}
+use Rattle.std.proofs.lemmas.Bool.{eq-eqb, cases_Bool}
 
 module _ (P : RadioCopy → Type 0) where
   rest_of_each : (x : RadioCopy) (xs : List RadioCopy) → ((s : ℕ) → Each P (filter (is_from_sender s) (x ∷ xs)))

@@ -1,24 +1,22 @@
 -- The workers before the first window.
-use Rattle.std.proofs.Common.{◌≡◌, Bool, ℕ, zero, suc, ◌<◌, ltb, List, [], ◌∷◌, length, get_or, refl, sym, ap}
-use Rattle.std.proofs.Common.{subst, arith, inl, inr, None}
-use Rattle.std.specs.List.{filter, AllZip}
+use Rattle.std.proofs.Common.{◌≡◌, Bool, ℕ, zero, suc, ◌<◌, ltb, List, [], ◌∷◌, length, get_or, refl, sym, ap, subst, arith, inl, inr, None}
 use Rattle.std.proofs.lemmas.Bool.{cases_Bool}
+use Rattle.std.specs.List.{filter, AllZip}
+use Rattle.copy_exchange.proofs.Windows.{settled_fresh}
+use Rattle.copy_exchange.specs.Crossed.{is_own, is_to, crossed}
+use Rattle.copy_exchange.specs.Inboxes.{IsFresh, Settled}
+use Rattle.copy_inbox.specs.Handles.{InboxId, TakerView}
+use Rattle.copy_inbox.specs.Items.{copies_of}
+use Rattle.copy_inbox.specs.Views.{make_taker_state}
 use Rattle.mote_net.specs.Net.{NetModel}
 use Rattle.net_agenda.specs.NetSystem.{system_of}
 use Rattle.window_laws.specs.System.{System}
 use Rattle.window_laws.specs.Windows.{first_mote, copies_by, Last}
-use Rattle.copy_inbox.specs.Items.{copies_of}
-use Rattle.copy_inbox.specs.Handles.{InboxId, TakerView}
-use Rattle.copy_inbox.specs.Views.{make_taker_state}
-use Rattle.copy_exchange.specs.Inboxes.{IsFresh, Settled}
-use Rattle.copy_exchange.proofs.Windows.{settled_fresh}
-use Rattle.copy_exchange.specs.Crossed.{is_own, is_to, crossed}
-use Rattle.worker_window.specs.declared.share.Share.{Share}
-use Rattle.worker_window.specs.Share.{IsWholeShare}
-use Rattle.window_workers.specs.declared.group.WorkerGroup.{WorkerGroup}
-use Rattle.window_workers.specs.WorkerGroup.{WorkersAreAt, IsWorkerAt}
 use Rattle.window_workers.specs.Start.{AreFirst}
-use Rattle.window_workers.specs.WorkerGroup.{IsCut}
+use Rattle.window_workers.specs.WorkerGroup.{WorkersAreAt, IsWorkerAt, IsCut}
+use Rattle.window_workers.specs.declared.group.WorkerGroup.{WorkerGroup}
+use Rattle.worker_window.specs.Share.{IsWholeShare}
+use Rattle.worker_window.specs.declared.share.Share.{Share}
 
 pub all_settled : (inboxes : List InboxId) (takers : List TakerView) → AllZip IsFresh inboxes takers → Settled inboxes takers
 all_settled [] [] h = tt

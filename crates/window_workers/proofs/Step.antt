@@ -1,24 +1,23 @@
 -- A window of all workers is one of the windows in the law of windows.
-use Rattle.std.proofs.Common.{◌≡◌, ◌⊎◌, ℕ, zero, suc, ◌+◌, ◌-◌, ◌<◌, ◌≤◌, true, false, cond, ltb, eqb, List, [], ◌∷◌}
-use Rattle.std.proofs.Common.{◌++◌, length, refl, sym, ap, ◌∙◌, subst, inl, inr, arith, Option, Some, None, append-nil}
+use Rattle.std.proofs.Common.{◌≡◌, ◌⊎◌, ℕ, zero, suc, ◌+◌, ◌-◌, ◌<◌, ◌≤◌, true, false, cond, ltb, eqb, List, [], ◌∷◌, ◌++◌, length, refl, sym, ap, ◌∙◌, subst, inl, inr, arith, Option, Some, None, append-nil}
+use Rattle.std.proofs.lemmas.List.Elements.{filter-append}
 use Rattle.std.specs.List.{filter, slice_get, AllByRecursion as Each}
 use Rattle.std.specs.Option.{option_map_or}
-use Rattle.std.proofs.lemmas.Bool.{cases_Bool, eqb-true, eq-eqb, false≢true, ltb-false, ltb-true}
-use Rattle.std.proofs.lemmas.List.Elements.{filter-append}
-use Rattle.radio_packet.specs.declared.copy.RadioCopy.{RadioCopy}
-use Rattle.mote_net.specs.Net.{NetModel}
-use Rattle.window_laws.specs.Forward.{RunsForward}
-use Rattle.window_laws.specs.Windows.{Alone, first_mote, Windows, RunsAlone, copies_by, is_from_sender}
-use Rattle.window_laws.proofs.Lists.{filter_filter, filter_none, every_weaker}
-use Rattle.window_laws.proofs.History.{history, unseen_since}
-use Rattle.net_agenda.specs.NetSystem.{system_of}
+use Rattle.copy_exchange.proofs.CutWindows.{one_more, same_copies}
 use Rattle.copy_exchange.specs.Crossed.{is_own, is_to, crossed, is_for_others}
 use Rattle.copy_exchange.specs.CutLaws.{GatheredCopies}
-use Rattle.copy_exchange.proofs.Crossed.{given_is, crossed_next}
-use Rattle.copy_exchange.proofs.CutWindows.{one_more, same_copies}
+use Rattle.mote_net.specs.Net.{NetModel}
+use Rattle.net_agenda.specs.NetSystem.{system_of}
+use Rattle.radio_packet.specs.declared.copy.RadioCopy.{RadioCopy}
+use Rattle.window_laws.proofs.Lists.{filter_filter, filter_none, every_weaker}
+use Rattle.window_laws.specs.Forward.{RunsForward}
+use Rattle.window_laws.specs.Windows.{Alone, first_mote, Windows, RunsAlone, copies_by, is_from_sender}
+use Rattle.window_workers.specs.WorkerGroup.{IsCut}
 use Rattle.worker_window.specs.Share.{Motes}
 use Rattle.worker_window.specs.Window.{RunsOwnMote, IsOutgoing, outgoing_by}
-use Rattle.window_workers.specs.WorkerGroup.{IsCut}
+use Rattle.std.proofs.lemmas.Bool.{eq-eqb, cases_Bool, eqb-true, false≢true, ltb-false, ltb-true}
+use Rattle.window_laws.proofs.History.{history, unseen_since}
+use Rattle.copy_exchange.proofs.Crossed.{given_is, crossed_next}
 use Rattle.window_workers.proofs.Same.{own_copies_same}
 use Rattle.window_workers.proofs.Sent.{every_of_each}
 

@@ -1,7 +1,7 @@
 -- Sums over the workers.
 use Rattle.std.proofs.Common.{◌≡◌, ℕ, zero, suc, ◌+◌, List, [], ◌∷◌, length, arith, refl, Some}
-use Rattle.std.specs.List.{slice_get, sum_by}
 use Rattle.std.proofs.lemmas.List.Sums.{sum_by-cons}
+use Rattle.std.specs.List.{slice_get, sum_by}
 use Rattle.copy_exchange.proofs.Counts.{total}
 
 total_first : (h : ℕ → ℕ) (n : ℕ) → total h (suc n) ≡ h 0 + total (λ k. h (suc k)) n

@@ -1,29 +1,27 @@
 -- The copies on their way to one worker: those pending for its motes, and those in its inbox.
-use Rattle.std.proofs.Common.{◌≡◌, ◌⊎◌, ℕ, ◌≤◌, true, false, cond, not, ltb, List, [], ◌∷◌, ◌++◌, length, refl, sym}
-use Rattle.std.proofs.Common.{ap, ap₂, ◌∙◌, subst, inl, inr, arith, append-nil, Option, Some, None}
-use Rattle.std.specs.Prelude.{IsPermutation}
-use Rattle.std.specs.List.{filter, flat_map, AllByRecursion as Each}
+use Rattle.std.proofs.Common.{◌≡◌, ◌⊎◌, ℕ, ◌≤◌, true, false, cond, not, ltb, List, [], ◌∷◌, ◌++◌, length, refl, sym, ap, ap₂, ◌∙◌, subst, inl, inr, arith, append-nil, Option, Some, None}
 use Rattle.std.proofs.lemmas.Bool.{cases_Bool, eqb-true, le-ltb}
 use Rattle.std.proofs.lemmas.List.Elements.{filter-append}
 use Rattle.std.proofs.lemmas.List.Sorted.{IsPermutation-sym, IsPermutation-trans}
-use Rattle.radio_packet.specs.declared.copy.RadioCopy.{RadioCopy}
+use Rattle.std.specs.List.{filter, flat_map, AllByRecursion as Each}
+use Rattle.std.specs.Prelude.{IsPermutation}
+use Rattle.copy_exchange.proofs.CutWindows.{coming, coming_pending}
+use Rattle.copy_exchange.specs.Crossed.{is_own, is_to, crossed, copies_seen}
+use Rattle.copy_exchange.specs.Takers.{taken_by, gathered_by}
+use Rattle.copy_inbox.specs.Handles.{TakerView}
 use Rattle.mote_net.specs.Net.{NetModel}
-use Rattle.window_laws.specs.Agenda.{up_to}
-use Rattle.window_laws.specs.Pending.{comes_from}
-use Rattle.window_laws.specs.Forward.{RunsForward}
-use Rattle.window_laws.specs.Windows.{first_mote, Windows, NoneBefore, copies_by, is_from_sender}
-use Rattle.window_laws.proofs.Alone.{from_pieces}
+use Rattle.net_agenda.specs.NetSystem.{system_of}
+use Rattle.radio_packet.specs.declared.copy.RadioCopy.{RadioCopy}
 use Rattle.window_laws.proofs.Lists.{filter_filter, filter_both, filter_every, every_passes, every_weaker}
 use Rattle.window_laws.proofs.Order.{in_order_same, sorted_permutes}
-use Rattle.net_agenda.specs.NetSystem.{system_of}
-use Rattle.copy_inbox.specs.Handles.{TakerView}
-use Rattle.copy_exchange.specs.Takers.{taken_by, gathered_by}
-use Rattle.copy_exchange.specs.Crossed.{is_own, is_to, crossed, copies_seen}
-use Rattle.copy_exchange.proofs.CutWindows.{coming, coming_pending}
-use Rattle.worker_window.specs.declared.share.Share.{Share}
+use Rattle.window_laws.specs.Agenda.{up_to}
+use Rattle.window_laws.specs.Forward.{RunsForward}
+use Rattle.window_laws.specs.Pending.{comes_from}
+use Rattle.window_laws.specs.Windows.{first_mote, Windows, NoneBefore, copies_by, is_from_sender}
+use Rattle.window_workers.specs.WorkerGroup.{IsWorkerAt, IsNotBefore}
 use Rattle.worker_window.specs.Share.{Motes, is_to_come}
-use Rattle.window_workers.specs.WorkerGroup.{IsWorkerAt}
-use Rattle.window_workers.specs.WorkerGroup.{IsNotBefore}
+use Rattle.worker_window.specs.declared.share.Share.{Share}
+use Rattle.window_laws.proofs.Alone.{from_pieces}
 
 not_before : (from : ℕ) (first : Option ℕ) (c : RadioCopy) → NoneBefore from first → IsNotBefore first c → from ≤ c.at
 not_before from None c w h = absurd h

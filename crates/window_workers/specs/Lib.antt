@@ -5,10 +5,8 @@ pub mod JoinedLaws
 pub mod JoinedNext
 pub mod JoinedRun
 pub mod JoinedWorker
-pub mod MarkedAll
 pub mod MarkedAtEnd
 pub mod MarkedBounds
-pub mod MarkedRefusals
 pub mod MarkedRun
 pub mod MarkedSenders
 pub mod MarkedThread

@@ -39,8 +39,8 @@ pub record SendsWindow (model : NetModel) (owners : List ℕ) (workers window un
   pub out : Each (IsOutgoing model owners old.share.worker) outgoing
   pub pushes : PushesWindow owners workers window old.endpoint new.endpoint outgoing
 
--- the worker took items until the window's mark had arrived from each other worker, and the copies among the items are
--- in its share; these are the numbers of marks from each sender
+-- the worker took items until the window's mark had arrived from each other worker, and the expected copies among them
+-- are in its share; these are the numbers of marks from each sender
 pub record TakesWindow (owners : List ℕ) (window until : ℕ) (old new : Worker) (marks : List ℕ) : Type 0 where
   pub arrived : List RadioCopy
   pub took : TakesExpected (position owners old.endpoint.worker until) old.endpoint.taker new.endpoint.taker arrived

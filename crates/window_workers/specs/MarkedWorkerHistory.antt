@@ -10,21 +10,23 @@ use Rattle.copy_exchange.specs.Crossed.{is_own, is_to}
 use Rattle.copy_inbox.specs.declared.items.Carried.{Carried}
 use Rattle.copy_inbox.specs.declared.items.Item.{Item}
 use Rattle.copy_inbox.specs.declared.rule.TakerState.{TakerState}
-use Rattle.copy_inbox.specs.Items.{copies_of, part, OfMade}
+use Rattle.copy_inbox.specs.Items.{part, OfMade}
+use Rattle.copy_exchange.specs.Expected.{expected_in, position}
 use Rattle.copy_exchange.specs.Pushes.{marks_in, pushes}
 use Rattle.worker_window.specs.declared.share.Share.{Share}
 use Rattle.worker_window.specs.Share.{Motes, IsWholeShare}
 use Rattle.worker_window.specs.Window.{RunsOwnMote, IsOutgoing, outgoing_by}
 use Rattle.window_workers.specs.MarkedBounds.{bound}
 
--- The state of a worker before each window, that is, its motes and all items that it had taken by then; and the
--- outgoing copies of the window.
+-- The state of a worker before each window, that is, its motes, all items that it had taken by then, and the copies
+-- among them that it had found to be expected; and the outgoing copies of the window.
 pub record WorkerHistory : Type 0 where
   pub motes : ℕ → Motes
   pub taken : ℕ → List Item
+  pub arrived : ℕ → List RadioCopy
   pub outgoing : ℕ → List RadioCopy
 
--- one window of the worker's motes, on the copies that it had taken by then
+-- one window of the worker's motes, on the expected copies that it had taken by then
 pub record RunsMotes (model : NetModel) (owners : List ℕ) (worker from until : ℕ) (motes next : Motes)
     (taken outgoing : List RadioCopy) : Type 0 where
   pub runs : (k : ℕ) → is_own owners worker k ≡ true
@@ -42,13 +44,16 @@ pub record WorkerRunsWindows (model : NetModel) (owners : List ℕ) (width windo
     (pushed : ℕ → List Carried) (history : WorkerHistory) : Type 0 where
   pub first : history.motes 0 ≡ first_mote (system_of model)
   pub nothing : history.taken 0 ≡ []
+  pub none_arrived : history.arrived 0 ≡ []
   pub all : history.taken windows ≡ taken
   pub goes_on : (k : ℕ) → k < windows → (more : List Item) × (history.taken (suc k) ≡ history.taken k ++ more)
+      × (history.arrived (suc k) ≡ history.arrived k
+      ++ expected_in (position owners worker (bound width model.end (suc k))) more)
   pub marks_lead : (k : ℕ) → k ≤ windows → (sender : ℕ) → sender < made → k ≤ marks_in (part sender (history.taken k))
   pub of_made : OfMade made taken
   pub runs : (k : ℕ) → k < windows
       → RunsMotes model owners worker (bound width model.end k) (bound width model.end (suc k))
-      (history.motes k) (history.motes (suc k)) (copies_of (history.taken k)) (history.outgoing k)
+      (history.motes k) (history.motes (suc k)) (history.arrived k) (history.outgoing k)
   pub pushes_then : (v : ℕ) → v < workers → v ≢ worker
       → pushed v ≡ pushes windows (λ k. filter (is_to owners v) (history.outgoing k))
 
@@ -59,5 +64,5 @@ pub record WorkerRunsMarked (model : NetModel) (owners : List ℕ) (width window
   pub history : WorkerHistory
   pub ran : WorkerRunsWindows model owners width windows workers worker state.made state.taken pushed history
   pub keeps : IsWholeShare model owners worker (bound width model.end windows) (history.motes windows)
-      (copies_of state.taken) share
+      (history.arrived windows) share
   pub nobody : state.gathered ≡ []

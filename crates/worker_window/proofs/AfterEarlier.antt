@@ -1,31 +1,23 @@
 -- The run of a window after earlier lines and packets, and its last wake.
-use Rattle.std.proofs.Common.{◌≡◌, ℕ, List, map, refl, sym, subst, append_assoc}
+use Rattle.std.proofs.Common.{◌≡◌, ℕ, List, map, refl, sym, subst}
 use Rattle.std.specs.List.{filter}
-use Rattle.radio_packet.specs.declared.arrival.Arrival.{Arrival}
-use Rattle.trace_lines.specs.declared.line.Line.{Line}
-use Rattle.radio_packet.specs.declared.sent.Sent.{Sent}
 use Rattle.mote_node.specs.Turn.{Node, wake_of, turn_of}
+use Rattle.net_agenda.specs.Buckets.{arrival_of}
+use Rattle.net_agenda.specs.NetSystem.{node_turn}
+use Rattle.radio_packet.specs.declared.arrival.Arrival.{Arrival}
 use Rattle.radio_packet.specs.declared.copy.RadioCopy.{RadioCopy}
-use Rattle.window_laws.specs.NetStep.{sends_of}
+use Rattle.trace_lines.specs.declared.line.Line.{Line}
 use Rattle.window_laws.specs.Order.{in_order}
 use Rattle.window_laws.specs.System.{System, Turned}
 use Rattle.window_laws.specs.Windows.{is_at, Alone}
-use Rattle.window_laws.specs.Windows.Alone.{Rests, Turns}
-use Rattle.net_agenda.specs.Buckets.{arrival_of}
-use Rattle.net_agenda.specs.NetSystem.{node_turn}
-use Rattle.worker_window.specs.Laws.{with_earlier, EarlierStaysInFront, EndsWithItsWake}
+use Rattle.worker_window.specs.Laws.{EarlierStaysInFront, EndsWithItsWake}
 use Rattle.worker_window.specs.MoteWindow.{LoneNode}
+use Rattle.window_laws.specs.Windows.Alone.{Rests, Turns}
 use Rattle.worker_window.proofs.Ends.{some_system}
-
-module _ (system : System Node Line) (number bound : ℕ) (lines : List Line) (sends : List Sent) where
-  alone_behind : {given : List RadioCopy} {mote last : LoneNode} → Alone system number bound given mote last → Alone system number bound given (with_earlier lines sends mote) (with_earlier lines sends last)
-  alone_behind (Rests quiet) = Rests quiet
-  alone_behind {given} {mote} (Turns m quiet comes below rest) =
-      let t = system.turn number mote.state m (in_order (filter (is_at m) given)) in
-      Turns m quiet comes below (rw (append_assoc lines mote.lines t.lines, append_assoc sends mote.sends (sends_of m number t)) (alone_behind rest))
+use Rattle.worker_window.proofs.Lone.{alone_in_front}
 
 pub earlier_stays_in_front : EarlierStaysInFront
-earlier_stays_in_front window last run lines sends = λ system turns. alone_behind system window.mote.state.mote.state.mote window.until lines sends (run system turns)
+earlier_stays_in_front window last run lines sends = λ system turns. alone_in_front system window.mote.state.mote.state.mote window.until lines sends (run system turns)
 
 turn_wakes : (m : ℕ) (given : List Arrival) (n : Node) → (turn_of m given n).wake ≡ wake_of (turn_of m given n).node
 unfolding turn_of

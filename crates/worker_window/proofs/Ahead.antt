@@ -1,15 +1,15 @@
 -- After a turn, all events of the mote are later.
 use Rattle.std.proofs.Common.{◌≡◌, ℕ, suc, ◌≤◌, false, not, nat_le, List, [], ◌∷◌, map, Option, Some, None, inl, inr, arith}
-use Rattle.std.specs.List.{filter, AllByRecursion}
 use Rattle.std.proofs.lemmas.Bool.{cases_Bool, eqb-false}
 use Rattle.std.proofs.lemmas.Bool.Decides.{nat_tests}
-use Rattle.mote_node.specs.Turn.{turn_of}
+use Rattle.std.specs.List.{filter, AllByRecursion}
 use Rattle.mote_node.proofs.WakeLaws.{wakes_later}
-use Rattle.radio_packet.specs.declared.copy.RadioCopy.{RadioCopy}
-use Rattle.window_laws.specs.Order.{in_order}
-use Rattle.window_laws.specs.Forward.{IsLater}
-use Rattle.window_laws.specs.Windows.{is_at, NoneBefore, IsQuiet}
+use Rattle.mote_node.specs.Turn.{turn_of}
 use Rattle.net_agenda.specs.Buckets.{arrival_of}
+use Rattle.radio_packet.specs.declared.copy.RadioCopy.{RadioCopy}
+use Rattle.window_laws.specs.Forward.{IsLater}
+use Rattle.window_laws.specs.Order.{in_order}
+use Rattle.window_laws.specs.Windows.{is_at, NoneBefore, IsQuiet}
 use Rattle.worker_window.specs.Laws.{NoTurnIsPast}
 use Rattle.worker_window.proofs.Ends.{not_before}
 

@@ -1,48 +1,41 @@
 -- A mote comes to rest after its window.
-use Rattle.std.proofs.Common.{◌≡◌, ℕ, ◌+◌, ◌<◌, ◌≤◌, Bool, true, false, cond, not, ◌&&◌, ◌||◌, ltb, eqb, List, [], ◌∷◌}
-use Rattle.std.proofs.Common.{◌++◌, length, map, refl, sym, ap, ◌∙◌, subst, inl, inr, arith, append-nil}
-use Rattle.std.proofs.Common.{Option, Some, None, get_or-set_same, get_or-set_other}
-use Rattle.std.specs.Prelude.{Vec, IsSomeAnd}
-use Rattle.std.specs.List.{filter, flat_map, AllByRecursion}
-use Rattle.std.specs.declared.alloc.Global.{Global}
-use Rattle.std.proofs.lemmas.Bool.{cases_Bool, cases_eq, eq-eqb, eqb-true, ne_eqb, false≢true, lt-ltb}
-use Rattle.std.proofs.lemmas.Bool.Decides.{nat_tests}
+use Rattle.std.proofs.Common.{◌≡◌, ℕ, ◌+◌, ◌<◌, ◌≤◌, Bool, true, false, cond, not, ◌&&◌, ◌||◌, ltb, eqb, List, [], ◌∷◌, ◌++◌, length, map, refl, sym, ap, ◌∙◌, subst, inl, inr, arith, append-nil, Option, Some, None, get_or-set_same, get_or-set_other}
+use Rattle.std.proofs.Math.Bool.{or-false}
+use Rattle.std.proofs.lemmas.Bool.{cases_Bool, cases_eq, eq-eqb, eqb-true, ne_eqb, false≢true, lt-ltb, le-ltb, not-true}
 use Rattle.std.proofs.lemmas.List.{length-set}
 use Rattle.std.proofs.lemmas.List.Concat.{flat_map-append}
 use Rattle.std.proofs.lemmas.List.Elements.{filter-append}
-use Rattle.trace_lines.specs.declared.line.Line.{Line}
-use Rattle.mote_node.specs.Turn.{Node, is_past, wake_of}
-use Rattle.radio_packet.specs.declared.copy.RadioCopy.{RadioCopy}
-use Rattle.radio_medium.specs.Medium.{copies}
+use Rattle.std.specs.List.{filter, flat_map, AllByRecursion}
+use Rattle.copy_exchange.specs.Crossed.{is_own, copies_seen, is_for_others}
 use Rattle.mote_net.specs.Net.{NetModel}
-use Rattle.window_laws.specs.Agenda.{Item, Wake, Packet, is_wake_of, packets, wake_items}
-use Rattle.window_laws.specs.NetStep.{put}
-use Rattle.window_laws.specs.Windows.{LoneMote, NoneBefore, copies_by, is_from_sender, is_sent_by}
-use Rattle.window_laws.proofs.Agenda.{packets_append, packets_map, packets_wake, no_wake_in_packets, own_wake}
-use Rattle.window_laws.proofs.Agenda.{other_wake}
-use Rattle.window_laws.proofs.Lists.{filter_none, filter_every, filter_stronger, every_filter, every_passes}
-use Rattle.window_laws.proofs.Lists.{every_weaker}
-use Rattle.worker_window.specs.declared.out.WindowOut.{WindowOut}
-use Rattle.worker_window.specs.declared.own.OwnWindow.{OwnWindow}
-use Rattle.worker_window.specs.Out.{out_of}
 use Rattle.mote_node.specs.Public.{node_in}
+use Rattle.mote_node.specs.Turn.{Node, is_past, wake_of}
 use Rattle.net_agenda.specs.Buckets.{HoldsItems}
 use Rattle.net_agenda.specs.Changes.{without_wakes}
 use Rattle.net_agenda.specs.NetSystem.{tree_at, system_of}
-use Rattle.worker_window.specs.declared.share.Share.{Share}
-use Rattle.copy_exchange.specs.Crossed.{is_own, copies_seen, is_for_others}
-use Rattle.worker_window.specs.MoteWindow.{node_number}
-use Rattle.worker_window.specs.Share.{Motes, IsBetweenWindows, IsShare, HasToCome, mote_here, is_to_come, wake_from}
-use Rattle.worker_window.specs.Window.{outgoing_by}
-use Rattle.worker_window.specs.Resting.{ComesToRest}
+use Rattle.radio_medium.specs.Medium.{copies}
+use Rattle.radio_packet.specs.declared.copy.RadioCopy.{RadioCopy}
+use Rattle.trace_lines.specs.declared.line.Line.{Line}
+use Rattle.window_laws.proofs.Agenda.{packets_append, packets_map, packets_wake, no_wake_in_packets, own_wake, other_wake}
+use Rattle.window_laws.proofs.Lists.{filter_none, filter_every, filter_stronger, every_filter, every_passes, every_weaker}
+use Rattle.window_laws.specs.Agenda.{Item, Wake, Packet, is_wake_of, packets, wake_items}
+use Rattle.window_laws.specs.NetStep.{put}
+use Rattle.window_laws.specs.Windows.{LoneMote, NoneBefore, copies_by, is_from_sender, is_sent_by}
 use Rattle.worker_window.specs.Events.{is_one_of}
 use Rattle.worker_window.specs.Log.{packets_in}
+use Rattle.worker_window.specs.MoteWindow.{node_number}
+use Rattle.worker_window.specs.Out.{out_of}
+use Rattle.worker_window.specs.Resting.{ComesToRest}
+use Rattle.worker_window.specs.Share.{Motes, IsBetweenWindows, IsShare, HasToCome, mote_here, is_to_come, wake_from}
+use Rattle.worker_window.specs.Window.{outgoing_by}
+use Rattle.worker_window.specs.declared.out.WindowOut.{WindowOut}
+use Rattle.worker_window.specs.declared.own.OwnWindow.{OwnWindow}
+use Rattle.worker_window.specs.declared.share.Share.{Share}
+use Rattle.std.specs.Prelude.{Vec, IsSomeAnd}
+use Rattle.std.specs.declared.alloc.Global.{Global}
 use Rattle.worker_window.proofs.Gives.{IsBack, ComesLate, come_late}
 use Rattle.worker_window.proofs.Items.{wake_still}
 use Rattle.worker_window.proofs.Numbers.{among_more}
-
-late : (at until : ℕ) → until ≤ at → not (ltb at until) ≡ true
-late at until h = grind (arith, nat_tests)
 
 and_true : (a b : Bool) → b ≡ true → a ≡ (a && b)
 and_true true true e = refl
@@ -54,10 +47,6 @@ filter_same : {X : Type 0} (p q : X → Bool) (xs : List X) → AllByRecursion (
 filter_same p q [] h = refl
 filter_same p q (x ∷ xs) h = let e = h.0 in rw e (ap (λ l. cond (q x) (x ∷ l) l) (filter_same p q xs h.1))
 
-or_none : (b : Bool) → (b || false) ≡ b
-or_none true = refl
-or_none false = refl
-
 packets_unwoken : (k : ℕ) (items : List Item) → packets (without_wakes k items) ≡ packets items
 packets_unwoken k [] = refl
 packets_unwoken k (Wake u j ∷ items) = elim (cases_Bool (eqb j k)) [ inl e ↦ rw e (packets_unwoken k items) | inr e ↦ rw e (packets_unwoken k items) ]
@@ -65,11 +54,7 @@ packets_unwoken k (Packet c ∷ items) = ap (λ l. c ∷ l) (packets_unwoken k i
 
 unwoken : (k : ℕ) (items : List Item) → filter (is_wake_of k) (without_wakes k items) ≡ []
 unwoken k items =
-    filter_none (is_wake_of k) (without_wakes k items) (every_weaker _ _ (λ item h. not_true (is_wake_of k item) h) (without_wakes k items) (every_passes (λ item. not (is_wake_of k item)) items))
-  where
-    not_true : (b : Bool) → not b ≡ true → b ≡ false
-    not_true true e = absurd (cc)
-    not_true false e = refl
+    filter_none (is_wake_of k) (without_wakes k items) (every_weaker _ _ (λ item h. not-true (is_wake_of k item) h) (without_wakes k items) (every_passes (λ item. not (is_wake_of k item)) items))
 
 other_woken : (j k : ℕ) → (j ≡ k → ⊥) → (items : List Item) → filter (is_wake_of j) (without_wakes k items) ≡ filter (is_wake_of j) items
 other_woken j k ne items = filter_stronger (is_wake_of j) (λ item. not (is_wake_of k item)) other items
@@ -103,7 +88,7 @@ module _ (n : NetModel) (owners : List ℕ) (worker from until : ℕ) (before no
   elsewhere j ne = let e : eqb j k ≡ false = ne_eqb j k ne in rw e refl
 
   same_here : (j : ℕ) → (j ≡ k → ⊥) → outgoing j ≡ here j
-  same_here j ne = ap (λ b. own j && not b) (among_more j others k ∙ (ap (λ b. is_one_of j others || b) (ne_eqb k j (λ f. ne (sym f))) ∙ or_none (is_one_of j others)))
+  same_here j ne = ap (λ b. own j && not b) (among_more j others k ∙ (ap (λ b. is_one_of j others || b) (ne_eqb k j (λ f. ne (sym f))) ∙ or-false (is_one_of j others)))
 
   -- a proof by cases: the mote that has returned, or another
   by_mote : (P : ℕ → Type 0) → P k → ((j : ℕ) → (j ≡ k → ⊥) → P j) → (j : ℕ) → P j
@@ -138,7 +123,7 @@ module _ (n : NetModel) (owners : List ℕ) (worker from until : ℕ) (before no
   from_others p s ne = filter_none (is_from_sender s) (filter p sent) (every_filter _ _ p (λ c h e. ne_eqb c.sender s (λ f. ne (sym f ∙ h.sender))) sent late_ones)
 
   come_own : sent_own ≡ filter (is_to_come own until) sent
-  come_own = filter_same (λ copy. own copy.to) (is_to_come own until) sent (every_weaker _ _ (λ c h. and_true (own c.to) (not (ltb c.at until)) (late c.at until h.late)) sent late_ones)
+  come_own = filter_same (λ copy. own copy.to) (is_to_come own until) sent (every_weaker _ _ (λ c h. and_true (own c.to) (not (ltb c.at until)) (ap not (le-ltb c.at until h.late))) sent late_ones)
 
   -- the outgoing copies, with those of this mote
   pub out_more : (s : ℕ) → outgoing_by n own next s ≡ outgoing_by n own now s ++ filter (is_from_sender s) (filter (is_for_others own) sent)

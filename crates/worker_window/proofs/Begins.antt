@@ -1,28 +1,27 @@
 -- A share before the motes' first turns.
-use Rattle.std.proofs.Common.{◌≡◌, ℕ, ◌+◌, ◌<◌, Bool, true, cond, ltb, List, [], ◌∷◌, ◌++◌, length, map, refl}
-use Rattle.std.proofs.Common.{sym, ap, ◌∙◌, subst, inl, inr, arith, add-one, zero-le, Option, Some, None}
-use Rattle.std.specs.Prelude.{IsSomeAnd}
-use Rattle.std.specs.List.{filter}
+use Rattle.std.proofs.Common.{◌≡◌, ℕ, ◌+◌, ◌<◌, Bool, true, cond, ltb, List, [], ◌∷◌, ◌++◌, length, map, refl, sym, ap, ◌∙◌, subst, inl, inr, arith, add-one, zero-le, Option, Some, None}
 use Rattle.std.proofs.lemmas.Bool.{cases_Bool, cases_lt, lt-ltb, false≢true}
 use Rattle.std.proofs.lemmas.List.{map-append}
 use Rattle.std.proofs.lemmas.List.Elements.{filter-append}
-use Rattle.std.proofs.lemmas.Option.{slice_get_cases}
-use Rattle.mote_node.specs.Turn.{is_past, wake_of}
+use Rattle.std.specs.List.{filter}
+use Rattle.std.specs.Prelude.{IsSomeAnd}
+use Rattle.copy_exchange.specs.Crossed.{is_own, copies_seen}
 use Rattle.mote_net.specs.Net.{NetModel}
-use Rattle.window_laws.specs.Agenda.{Wake, packets, is_wake_of, wake_items, mote_of, up_to}
-use Rattle.window_laws.specs.Windows.{NoneBefore, first_mote, is_from_sender, is_sent_by}
-use Rattle.window_laws.proofs.Agenda.{first_wakes, packets_wakes}
-use Rattle.window_laws.proofs.Lists.{filter_filter}
+use Rattle.mote_node.specs.Public.{wake_in}
+use Rattle.mote_node.specs.Turn.{is_past, wake_of}
 use Rattle.net_agenda.specs.Buckets.{HoldsItems}
 use Rattle.net_agenda.specs.NetSystem.{system_of, first_node_in, tree_at}
-use Rattle.net_agenda.proofs.NewWakes.{new_wakes, new_numbers}
-use Rattle.worker_window.specs.declared.share.Share.{Share}
-use Rattle.copy_exchange.specs.Crossed.{is_own, copies_seen}
+use Rattle.window_laws.proofs.Agenda.{first_wakes, packets_wakes}
+use Rattle.window_laws.proofs.Lists.{filter_filter}
+use Rattle.window_laws.specs.Agenda.{Wake, packets, is_wake_of, wake_items, mote_of, up_to}
+use Rattle.window_laws.specs.Windows.{NoneBefore, first_mote, is_from_sender, is_sent_by}
 use Rattle.worker_window.specs.Log.{HaveFates, packets_in}
 use Rattle.worker_window.specs.Share.{mote_here, IfOwn, IsBetweenWindows, IsBeforeFirstTurn, IsWholeShare, is_to_come}
 use Rattle.worker_window.specs.declared.own.OwnWindow.{OwnWindow}
+use Rattle.worker_window.specs.declared.share.Share.{Share}
+use Rattle.std.proofs.lemmas.Option.{slice_get_cases}
+use Rattle.net_agenda.proofs.NewWakes.{new_wakes, new_numbers}
 use Rattle.worker_window.proofs.Places.{none_behind}
-use Rattle.mote_node.specs.Public.{wake_in}
 use Rattle.worker_window.proofs.NoTurnIsPast.{not_begun}
 use Rattle.worker_window.proofs.Items.{all_wakes}
 

@@ -1,16 +1,16 @@
 -- A window has only one end.
 use Rattle.std.proofs.Common.{◌≡◌, ℕ, ◌≤◌, true, not, ◌||◌, eqb, List, [], ◌∷◌, Option, Some, None, refl, subst, inl, inr, arith}
-use Rattle.std.specs.List.{filter, list_any, AllByRecursion}
 use Rattle.std.proofs.lemmas.Bool.{cases_Bool, eqb-true, false≢true}
-use Rattle.trace_lines.specs.declared.line.Line.{Line}
+use Rattle.std.specs.List.{filter, list_any, AllByRecursion}
 use Rattle.mote_node.specs.Turn.{Node}
+use Rattle.net_agenda.specs.NetSystem.{node_turn}
 use Rattle.radio_packet.specs.declared.copy.RadioCopy.{RadioCopy}
+use Rattle.trace_lines.specs.declared.line.Line.{Line}
 use Rattle.window_laws.specs.Order.{in_order}
 use Rattle.window_laws.specs.System.{System}
 use Rattle.window_laws.specs.Windows.{LoneMote, lone_turn, is_at, wakes_at, IsQuiet, Alone}
-use Rattle.window_laws.specs.Windows.Alone.{Rests, Turns}
-use Rattle.net_agenda.specs.NetSystem.{node_turn}
 use Rattle.worker_window.specs.Laws.{EndIsOne}
+use Rattle.window_laws.specs.Windows.Alone.{Rests, Turns}
 
 any_copy : (k m : ℕ) (xs : List RadioCopy) → AllByRecursion (λ copy. k ≤ copy.at) xs → list_any (is_at m) xs ≡ true → k ≤ m
 any_copy k m [] g h = absurd (false≢true h)

@@ -1,8 +1,8 @@
 -- The longest prefix of a list in which all elements pass a test.
 use Rattle.std.proofs.Common.{◌≡◌, ℕ, zero, suc, ◌+◌, ◌<◌, Bool, true, false, List, [], ◌∷◌, take, length, get_or, refl, sym, ap, ◌∙◌, subst, arith}
-use Rattle.std.specs.List.{take_while, AllByRecursion}
 use Rattle.std.proofs.lemmas.List.{take_more}
 use Rattle.std.proofs.lemmas.List.Sums.{take_while-cons}
+use Rattle.std.specs.List.{take_while, AllByRecursion}
 use Rattle.window_laws.proofs.Lists.{every_append}
 
 module _ {X : Type 0} (p : X → Bool) where

@@ -1,10 +1,11 @@
 -- Motes are given their copies.
 use Rattle.std.proofs.Common.{◌≡◌, ◌∙◌, ℕ, ◌<◌, Bool, true, false, not, ◌||◌, if◌then◌else◌, List, [], ◌∷◌, ◌++◌, length, get_or, set, Option, Some, None, IsSome, refl, sym, ap, subst, inl, inr}
+use Rattle.std.proofs.Math.Bool.{or-false, or-true}
 use Rattle.std.proofs.lemmas.Bool.{cases_eq, eq-eqb, ne_eqb, false≢true}
 use Rattle.radio_packet.specs.declared.copy.RadioCopy.{RadioCopy}
-use Rattle.worker_window.specs.declared.own.OwnWindow.{OwnWindow}
 use Rattle.worker_window.specs.Events.{IsSameMote, are_different, copies_at, held_copies, is_called, is_one_of}
 use Rattle.worker_window.specs.Share.{mote_here}
+use Rattle.worker_window.specs.declared.own.OwnWindow.{OwnWindow}
 use Rattle.worker_window.proofs.Numbers.{among_more, different_more}
 use Rattle.worker_window.proofs.Places.{at_place, put_here, put_else}
 
@@ -63,14 +64,6 @@ still_none (Some x) b e h = absurd (no e)
 module _ (first now : List (Option OwnWindow)) (k : ℕ) (old new : Option OwnWindow) (is : old ≡ get_or now k old) (low : k < length now) (called after : List ℕ) (b : Bool) (b_is : b ≡ not (is_called old))
     (after_is : after ≡ (if b then called ++ k ∷ [] else called)) (called_new : is_called new ≡ true) (calls : (j : ℕ) → is_called (mote_here now j) ≡ is_one_of j called) (different : are_different called ≡ true)
     (others : (j : ℕ) → is_one_of j called ≡ false → mote_here now j ≡ mote_here first j) where
-  or_none : (b : Bool) → (b || false) ≡ b
-  or_none true = refl
-  or_none false = refl
-
-  or_yes : (b : Bool) → (b || true) ≡ true
-  or_yes true = refl
-  or_yes false = refl
-
   flips : (a b : Bool) → a ≡ not b → b ≡ not a
   flips true true e = absurd (false≢true (sym e))
   flips true false e = refl
@@ -84,14 +77,14 @@ module _ (first now : List (Option OwnWindow)) (k : ℕ) (old new : Option OwnWi
   called_else j ne = ap (is_one_of j) after_is ∙ go b
     where
       go : (b : Bool) → is_one_of j (if b then called ++ k ∷ [] else called) ≡ is_one_of j called
-      go true = among_more j called k ∙ (ap (λ c. is_one_of j called || c) (ne_eqb k j (λ f. ne (sym f))) ∙ or_none (is_one_of j called))
+      go true = among_more j called k ∙ (ap (λ c. is_one_of j called || c) (ne_eqb k j (λ f. ne (sym f))) ∙ or-false (is_one_of j called))
       go false = refl
 
   pub called_now : is_one_of k after ≡ true
   called_now = ap (is_one_of k) after_is ∙ go b b_is
     where
       go : (b : Bool) → b ≡ not (is_called old) → is_one_of k (if b then called ++ k ∷ [] else called) ≡ true
-      go true e = among_more k called k ∙ (ap (λ c. is_one_of k called || c) (eq-eqb k k refl) ∙ or_yes (is_one_of k called))
+      go true e = among_more k called k ∙ (ap (λ c. is_one_of k called || c) (eq-eqb k k refl) ∙ or-true (is_one_of k called))
       go false e = was ∙ flips false (is_called old) e
 
   pub different_then : are_different after ≡ true

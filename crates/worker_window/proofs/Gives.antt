@@ -1,33 +1,32 @@
 -- The result of a mote in its window, as part of the net.
-use Rattle.std.proofs.Common.{◌≡◌, ℕ, ◌+◌, ◌<◌, ◌≤◌, Bool, true, false, List, [], ◌∷◌, ◌++◌, length, map, drop, refl}
-use Rattle.std.proofs.Common.{sym, ap, ◌∙◌, subst, arith, append-nil, Option, Some, None, option_map}
-use Rattle.std.specs.Prelude.{MatchOption}
+use Rattle.std.proofs.Common.{◌≡◌, ℕ, ◌+◌, ◌<◌, ◌≤◌, Bool, true, false, List, [], ◌∷◌, ◌++◌, length, map, drop, refl, sym, ap, ◌∙◌, subst, arith, append-nil, Option, Some, None, option_map}
 use Rattle.std.specs.List.{flat_map, AllByRecursion}
-use Rattle.trace_lines.specs.declared.line.Line.{Line}
-use Rattle.radio_packet.specs.declared.sent.Sent.{Sent}
-use Rattle.mote_node.specs.Turn.{Node, is_past, wake_of}
-use Rattle.mote_node.specs.Public.{node_in}
-use Rattle.mote_node.proofs.WakeLaws.{wakes_later}
+use Rattle.std.specs.Prelude.{MatchOption}
 use Rattle.mote_laws.proofs.Stamps.{turns_stamp}
-use Rattle.radio_packet.specs.declared.copy.RadioCopy.{RadioCopy}
-use Rattle.radio_medium.specs.Medium.{copies, lookahead}
-use Rattle.radio_medium.proofs.Copies.{copies_later}
 use Rattle.mote_net.specs.Net.{NetModel}
+use Rattle.mote_node.proofs.WakeLaws.{wakes_later}
+use Rattle.mote_node.specs.Public.{node_in}
+use Rattle.mote_node.specs.Turn.{Node, is_past, wake_of}
+use Rattle.net_agenda.specs.Buckets.{arrival_of}
+use Rattle.net_agenda.specs.NetSystem.{tree_at, system_of, node_turn}
+use Rattle.radio_medium.proofs.Copies.{copies_later}
+use Rattle.radio_medium.specs.Medium.{copies, lookahead}
+use Rattle.radio_packet.specs.declared.copy.RadioCopy.{RadioCopy}
+use Rattle.radio_packet.specs.declared.sent.Sent.{Sent}
+use Rattle.trace_lines.specs.declared.line.Line.{Line}
+use Rattle.window_laws.proofs.Lists.{every_append, every_weaker, every_flat_map}
 use Rattle.window_laws.specs.Forward.{IsLater}
 use Rattle.window_laws.specs.NetStep.{stamped}
 use Rattle.window_laws.specs.Windows.{LoneMote, NoneBefore, lone_turn, IsQuiet, Alone}
-use Rattle.window_laws.proofs.Lists.{every_append, every_weaker, every_flat_map}
+use Rattle.worker_window.specs.Laws.{IsAhead}
+use Rattle.worker_window.specs.MoteWindow.{Window, lone_node, node_number}
+use Rattle.worker_window.specs.Out.{Gives}
+use Rattle.worker_window.specs.Own.{window_in, course_in, window_over, GivesNoMore}
+use Rattle.worker_window.specs.Share.{Motes, HoldsMote}
+use Rattle.worker_window.specs.Turns.{MayGive, CanGoOn}
 use Rattle.worker_window.specs.declared.out.WindowOut.{WindowOut}
 use Rattle.worker_window.specs.declared.own.OwnWindow.{OwnWindow}
-use Rattle.worker_window.specs.MoteWindow.{Window, lone_node, node_number}
-use Rattle.worker_window.specs.Own.{window_in, course_in, window_over, GivesNoMore}
-use Rattle.worker_window.specs.Turns.{MayGive, CanGoOn}
-use Rattle.worker_window.specs.Out.{Gives}
-use Rattle.worker_window.specs.Laws.{IsAhead}
-use Rattle.net_agenda.specs.Buckets.{arrival_of}
-use Rattle.net_agenda.specs.NetSystem.{tree_at, system_of, node_turn}
 use Rattle.net_agenda.proofs.Systems.{turn_wakes}
-use Rattle.worker_window.specs.Share.{Motes, HoldsMote}
 use Rattle.worker_window.proofs.NoTurnIsPast.{turn_before}
 use Rattle.worker_window.proofs.Lone.{in_front, alone_in_front, alone_alike, alone_keeps, rests_quiet, IsAlike}
 

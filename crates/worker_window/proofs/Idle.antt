@@ -1,29 +1,22 @@
 -- A share is also valid at later moments, up to its first pending event.
-use Rattle.std.proofs.Common.{◌≡◌, ℕ, ◌≤◌, Bool, true, false, not, ◌&&◌, ◌||◌, ltb, eqb, List, [], refl, sym, ap, ◌∙◌}
-use Rattle.std.proofs.Common.{subst, arith, Option, Some, None}
-use Rattle.std.specs.List.{filter, AllByRecursion}
-use Rattle.std.proofs.lemmas.Bool.{and_parts, eqb-true}
+use Rattle.std.proofs.Common.{◌≡◌, ℕ, ◌≤◌, Bool, true, not, ◌&&◌, ◌||◌, ltb, eqb, List, [], refl, sym, ap, ◌∙◌, subst, arith, Option, Some, None}
+use Rattle.std.proofs.lemmas.Bool.{and_parts, eqb-true, le-ltb}
 use Rattle.std.proofs.lemmas.Bool.Decides.{nat_tests}
-use Rattle.radio_packet.specs.declared.copy.RadioCopy.{RadioCopy}
+use Rattle.std.specs.List.{filter, AllByRecursion}
+use Rattle.copy_exchange.specs.Crossed.{is_own, copies_seen}
 use Rattle.mote_net.specs.Net.{NetModel}
+use Rattle.net_agenda.specs.NetSystem.{system_of}
+use Rattle.radio_packet.specs.declared.copy.RadioCopy.{RadioCopy}
+use Rattle.window_laws.proofs.Lists.{any_every, every_weaker, every_filter, filter_both, filter_every}
 use Rattle.window_laws.specs.Agenda.{Item, moment_of, mote_of, comes_at, packets, wake_items, IsLeast}
 use Rattle.window_laws.specs.Windows.{NoneBefore, is_from_sender}
-use Rattle.window_laws.proofs.Lists.{any_every, every_weaker, every_filter, filter_both, filter_every}
-use Rattle.net_agenda.specs.NetSystem.{system_of}
-use Rattle.worker_window.specs.declared.share.Share.{Share}
-use Rattle.copy_exchange.specs.Crossed.{is_own, copies_seen}
 use Rattle.worker_window.specs.Share.{Motes, IsWholeShare, is_to_come}
+use Rattle.worker_window.specs.declared.share.Share.{Share}
 use Rattle.worker_window.proofs.NoTurnIsPast.{past_later}
 use Rattle.worker_window.proofs.Items.{inside, all_wakes, wake_of_all, packets_of_all}
+use Rattle.worker_window.proofs.Parts.{still_later}
 
 -- the tests as statements about numbers
-still_later : (own : Bool) (at from moment : ℕ) → from ≤ moment → (own && not (ltb at moment)) ≡ ((own && not (ltb at from)) && not (ltb at moment))
-still_later true at from moment h = grind (arith, nat_tests)
-still_later false at from moment h = refl
-
-late : (at moment : ℕ) → moment ≤ at → not (ltb at moment) ≡ true
-late at moment h = grind (arith, nat_tests)
-
 later_or_now : (t m u k : ℕ) → (ltb t u || (eqb u t && not (ltb k m))) ≡ true → t ≤ u
 later_or_now t m u k h = grind (arith, nat_tests)
 
@@ -53,7 +46,7 @@ module _ (n : NetModel) (owners : List ℕ) (worker from : ℕ) (motes : Motes) 
       → filter (is_from_sender s) (packets items) ≡ filter (is_to_come own moment) (copies_seen (system_of n) own motes taken s)
   copies_then moment s le h =
       sym (filter_every (λ c. not (ltb c.at moment)) (filter (is_from_sender s) (packets items))
-      (every_filter _ _ (is_from_sender s) (λ c g e. late c.at moment g) (packets items) (packets_of_all (λ item. moment ≤ moment_of item) items h)))
+      (every_filter _ _ (is_from_sender s) (λ c g e. ap not (le-ltb c.at moment g)) (packets items) (packets_of_all (λ item. moment ≤ moment_of item) items h)))
       ∙ (ap (filter (λ c. not (ltb c.at moment))) (keeps.agenda.copies s)
       ∙ filter_both (λ c. not (ltb c.at moment)) (is_to_come own from) (is_to_come own moment) (λ c. still_later (own c.to) c.at from moment le) (copies_seen (system_of n) own motes taken s))
 

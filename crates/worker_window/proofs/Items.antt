@@ -1,18 +1,17 @@
 -- The items of a share's agenda: wakes of the worker's motes and copies for these motes, none before the share's
 -- moment.
-use Rattle.std.proofs.Common.{◌≡◌, ℕ, ◌≤◌, Bool, true, false, cond, not, ◌&&◌, ltb, eqb, List, [], ◌∷◌, refl, sym, ap}
-use Rattle.std.proofs.Common.{subst, inl, inr, arith, Option, Some, None}
-use Rattle.std.specs.List.{filter, AllByRecursion}
-use Rattle.std.proofs.lemmas.Bool.{cases_Bool, eq-eqb, and_parts, le-ltb}
+use Rattle.std.proofs.Common.{◌≡◌, ℕ, ◌≤◌, Bool, true, false, cond, not, ◌&&◌, ltb, eqb, List, [], ◌∷◌, refl, sym, ap, subst, inl, inr, arith, Option, Some, None}
+use Rattle.std.proofs.lemmas.Bool.{cases_Bool, eq-eqb, and_parts, le-ltb, ltb-false}
 use Rattle.std.proofs.lemmas.Bool.Decides.{nat_tests}
-use Rattle.radio_packet.specs.declared.copy.RadioCopy.{RadioCopy}
+use Rattle.std.specs.List.{filter, AllByRecursion}
+use Rattle.copy_exchange.specs.Crossed.{copies_seen}
 use Rattle.mote_net.specs.Net.{NetModel}
-use Rattle.window_laws.specs.Agenda.{Item, Wake, Packet, moment_of, mote_of, is_wake_of, packets, wake_items}
-use Rattle.window_laws.specs.Windows.{NoneBefore, is_from_sender}
-use Rattle.window_laws.proofs.Lists.{every_passes, every_weaker}
 use Rattle.net_agenda.specs.Buckets.{Buckets}
 use Rattle.net_agenda.specs.NetSystem.{system_of}
-use Rattle.copy_exchange.specs.Crossed.{copies_seen}
+use Rattle.radio_packet.specs.declared.copy.RadioCopy.{RadioCopy}
+use Rattle.window_laws.proofs.Lists.{every_passes, every_weaker}
+use Rattle.window_laws.specs.Agenda.{Item, Wake, Packet, moment_of, mote_of, is_wake_of, packets, wake_items}
+use Rattle.window_laws.specs.Windows.{NoneBefore, is_from_sender}
 use Rattle.worker_window.specs.Share.{Motes, HasToCome, is_to_come, wake_from}
 
 -- a property of each mote's wakes and each sender's copies is a property of each item
@@ -56,9 +55,6 @@ not_before a b h = grind (arith, nat_tests)
 pub to_come : (own : Bool) (at from : ℕ) → (own && not (ltb at from)) ≡ true → (own ≡ true) × (from ≤ at)
 to_come own at from h = let p = and_parts own (not (ltb at from)) h in (p.0, not_before at from p.1)
 
-not_sooner : (a b : ℕ) → ltb a b ≡ false → b ≤ a
-not_sooner a b h = grind (arith, nat_tests)
-
 -- a wake that isn't before the moment
 pub wake_still : (from : ℕ) (wake : Option ℕ) → NoneBefore from wake → wake_from from wake ≡ wake
 wake_still from None h = refl
@@ -81,7 +77,7 @@ module _ (n : NetModel) (own : ℕ → Bool) (from : ℕ) (motes : Motes) (taken
   wake_inside : (k : ℕ) (b : Bool) → own k ≡ b → (wake : Option ℕ) → AllByRecursion IsInside (cond b (wake_items k (wake_from from wake)) [])
   wake_inside k false e wake = tt
   wake_inside k true e None = tt
-  wake_inside k true e (Some t) = elim (cases_Bool (ltb t from)) [ inl f ↦ rw f tt | inr f ↦ rw f ((e, not_sooner t from f), tt) ]
+  wake_inside k true e (Some t) = elim (cases_Bool (ltb t from)) [ inl f ↦ rw f tt | inr f ↦ rw f ((e, ltb-false t from f), tt) ]
 
   pub inside : AllByRecursion IsInside has.items
   inside =

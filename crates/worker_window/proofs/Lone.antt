@@ -1,18 +1,19 @@
 -- A mote by itself: its run doesn't depend on the lines and packets from before, or on the order of copies with the
 -- same moment.
 use Rattle.std.proofs.Common.{◌≡◌, ℕ, ◌<◌, ◌≤◌, ◌⊎◌, Bool, true, false, not, ◌||◌, eqb, List, [], ◌∷◌, ◌++◌, refl, sym, ap, ◌∙◌, subst, inl, inr, arith, append_assoc, Option, Some, None}
-use Rattle.std.specs.List.{filter, list_any, AllByRecursion}
-use Rattle.std.proofs.lemmas.Bool.{cases_Bool, cases_eq, cases_lt, eq-eqb, ne_eqb, eqb-true, or_parts, false≢true}
+use Rattle.std.proofs.lemmas.Bool.{cases_Bool, cases_eq, cases_lt, eq-eqb, ne_eqb, or_parts, false≢true}
 use Rattle.std.proofs.lemmas.Bool.Decides.{nat_tests}
-use Rattle.radio_packet.specs.declared.sent.Sent.{Sent}
+use Rattle.std.specs.List.{filter, list_any, AllByRecursion}
 use Rattle.radio_packet.specs.declared.copy.RadioCopy.{RadioCopy}
-use Rattle.window_laws.specs.System.{System, Turned}
+use Rattle.radio_packet.specs.declared.sent.Sent.{Sent}
+use Rattle.window_laws.proofs.Lists.{filter_stronger, every_filter, is_filled}
 use Rattle.window_laws.specs.Forward.{IsLater}
-use Rattle.window_laws.specs.Order.{in_order}
 use Rattle.window_laws.specs.NetStep.{sends_of}
+use Rattle.window_laws.specs.Order.{in_order}
+use Rattle.window_laws.specs.System.{System, Turned}
 use Rattle.window_laws.specs.Windows.{LoneMote, after_lone_turn, lone_turn, is_at, wakes_at, NoneBefore, IsQuiet, Alone, Rests, Turns}
-use Rattle.window_laws.proofs.Lists.{filter_stronger, every_filter, any_every, is_filled}
 use Rattle.window_laws.proofs.Alone.{filled_given}
+use Rattle.worker_window.proofs.Ends.{not_before}
 
 -- the mote with earlier lines and packets before its own
 abbrev pub in_front : {S L : Type 0} → List L → List Sent → LoneMote S L → LoneMote S L
@@ -96,17 +97,6 @@ module _ {S L : Type 0} (system : System S L) (k bound : ℕ) where
 
   -- a property that each turn of the window preserves holds at the window's end
   module _ (wakes_later : (mote : ℕ) (state : S) (moment : ℕ) (given : List RadioCopy) → IsLater moment (system.turn mote state moment given).wake) (from : ℕ) where
-    wake_at : (t : ℕ) (wake : Option ℕ) → NoneBefore from wake → wakes_at t wake ≡ true → from ≤ t
-    wake_at t None h e = absurd (false≢true e)
-    wake_at t (Some u) h e = let g = eqb-true u t e in omega arith
-
-    turn_from : (t : ℕ) (wake : Option ℕ) (window_copies : List RadioCopy) → IsQuiet from wake window_copies → (wakes_at t wake || list_any (is_at t) window_copies) ≡ true → from ≤ t
-    turn_from t wake window_copies quiet e =
-        elim (cases_Bool (wakes_at t wake)) [
-          | inl g ↦ wake_at t wake quiet.no_wake g
-          | inr g ↦ (let h = rw g at e in any_every _ (is_at t) _ (λ c f le. (let q = eqb-true c.at t f in omega arith)) window_copies h quiet.no_copies)
-        ]
-
     later_from : (t : ℕ) (wake : Option ℕ) → from ≤ t → IsLater t wake → NoneBefore from wake
     later_from t None h g = tt
     later_from t (Some u) h g = omega arith
@@ -115,7 +105,7 @@ module _ {S L : Type 0} (system : System S L) (k bound : ℕ) where
         → {window_copies : List RadioCopy} {mote last : LoneMote S L} → IsQuiet from mote.wake window_copies → P mote → Alone system k bound window_copies mote last → P last
     alone_keeps P step quiet p (Rests rests) = p
     alone_keeps P step {window_copies} {mote} quiet p (Turns t now comes low rest) =
-        let le = turn_from t mote.wake window_copies quiet comes in
+        let le = not_before from t mote.wake window_copies quiet comes in
         let given : List RadioCopy = in_order (filter (is_at t) window_copies) in
         alone_keeps P step
         (record {

@@ -1,12 +1,12 @@
 -- No turn is past: each mote's last turn was before the moment of its share.
 use Rattle.std.proofs.Common.{◌≡◌, ◌∙◌, ℕ, ◌<◌, ◌≤◌, false, nat_le, Option, Some, None, List, refl, ap, arith}
 use Rattle.std.proofs.lemmas.Bool.Decides.{nat_tests}
-use Rattle.trace_lines.specs.declared.line.Line.{Line}
-use Rattle.mote_node.specs.Turn.{Node, new_node, is_past, turn_of}
-use Rattle.radio_packet.specs.declared.copy.RadioCopy.{RadioCopy}
 use Rattle.mote_net.specs.Net.{NetModel}
-use Rattle.window_laws.specs.Windows.{LoneMote, lone_turn}
+use Rattle.mote_node.specs.Turn.{Node, new_node, is_past, turn_of}
 use Rattle.net_agenda.specs.NetSystem.{system_of, first_node_in}
+use Rattle.radio_packet.specs.declared.copy.RadioCopy.{RadioCopy}
+use Rattle.trace_lines.specs.declared.line.Line.{Line}
+use Rattle.window_laws.specs.Windows.{LoneMote, lone_turn}
 
 not_past : (t moment : ℕ) → t < moment → nat_le moment t ≡ false
 not_past t moment h = grind (arith, nat_tests)

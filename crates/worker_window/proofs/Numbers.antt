@@ -1,16 +1,13 @@
 -- Lists of different numbers.
+use Rattle.std.proofs.Common.{◌≡◌, ◌∙◌, ℕ, zero, suc, ◌<◌, true, false, not, ◌||◌, eqb, List, [], ◌∷◌, ◌++◌, length, get_or, refl, sym, ap, subst, inl, inr, arith}
+use Rattle.std.proofs.Math.Bool.{or-false, or-true}
+use Rattle.std.proofs.lemmas.Bool.{cases_Bool, eq-eqb, eqb-true, ne_eqb, false≢true, and_parts, not-true, or_parts}
 use Rattle.std.specs.List.{AllByRecursion}
-use Rattle.std.proofs.Common.{◌≡◌, ◌∙◌, ℕ, zero, suc, ◌<◌, Bool, true, false, not, ◌||◌, eqb, List, [], ◌∷◌, ◌++◌, length, get_or, refl, sym, ap, subst, inl, inr, arith}
-use Rattle.std.proofs.lemmas.Bool.{cases_Bool, eq-eqb, eqb-true, ne_eqb, false≢true, and_parts}
 use Rattle.worker_window.specs.Events.{is_one_of, are_different}
 
 -- a list with one more number
 pub among_more : (j : ℕ) (ks : List ℕ) (k : ℕ) → is_one_of j (ks ++ k ∷ []) ≡ (is_one_of j ks || eqb k j)
-among_more j [] k = or_false (eqb k j)
-  where
-    or_false : (b : Bool) → (b || false) ≡ b
-    or_false true = refl
-    or_false false = refl
+among_more j [] k = or-false (eqb k j)
 among_more j (i ∷ ks) k = elim (cases_Bool (eqb i j)) [ inl e ↦ rw e refl | inr e ↦ rw e (among_more j ks k) ]
 
 pub different_more : (ks : List ℕ) (k : ℕ) → are_different ks ≡ true → is_one_of k ks ≡ false → are_different (ks ++ k ∷ []) ≡ true
@@ -21,17 +18,9 @@ different_more (i ∷ ks) k d n =
       | inl e ↦ absurd (let f = rw e at n in false≢true (sym f))
       | inr e ↦ (let f = rw e at n in
           let g : eqb k i ≡ false = ne_eqb k i (λ q. false≢true (sym e ∙ eq-eqb i k (sym q))) in
-          let h : is_one_of i (ks ++ k ∷ []) ≡ false = among_more i ks k ∙ (ap (λ b. is_one_of i ks || b) g ∙ (or_no (is_one_of i ks) ∙ not_true (is_one_of i ks) parts.0)) in
+          let h : is_one_of i (ks ++ k ∷ []) ≡ false = among_more i ks k ∙ (ap (λ b. is_one_of i ks || b) g ∙ (or-false (is_one_of i ks) ∙ not-true (is_one_of i ks) parts.0)) in
           rw h (different_more ks k parts.1 f))
     ]
-  where
-    or_no : (b : Bool) → (b || false) ≡ b
-    or_no true = refl
-    or_no false = refl
-
-    not_true : (b : Bool) → not b ≡ true → b ≡ false
-    not_true true e = absurd (cc)
-    not_true false e = refl
 
 -- a list with one number less
 pub different_less : (ks : List ℕ) (k : ℕ) → are_different (ks ++ k ∷ []) ≡ true → (are_different ks ≡ true) × (is_one_of k ks ≡ false)
@@ -39,23 +28,12 @@ different_less [] k d = (refl, refl)
 different_less (i ∷ ks) k d =
     let parts = and_parts (not (is_one_of i (ks ++ k ∷ []))) (are_different (ks ++ k ∷ [])) d in
     let ih = different_less ks k parts.1 in
-    let h : (is_one_of i ks || eqb k i) ≡ false = sym (among_more i ks k) ∙ not_true (is_one_of i (ks ++ k ∷ [])) parts.0 in
-    let a : is_one_of i ks ≡ false = left_no (is_one_of i ks) (eqb k i) h in
-    let b : eqb k i ≡ false = right_no (is_one_of i ks) (eqb k i) h in
+    let h : (is_one_of i ks || eqb k i) ≡ false = sym (among_more i ks k) ∙ not-true (is_one_of i (ks ++ k ∷ [])) parts.0 in
+    let none = or_parts (is_one_of i ks) (eqb k i) h in
+    let a : is_one_of i ks ≡ false = none.0 in
+    let b : eqb k i ≡ false = none.1 in
     let c : eqb i k ≡ false = ne_eqb i k (λ q. false≢true (sym b ∙ eq-eqb k i (sym q))) in
     (rw a ih.0, rw c ih.1)
-  where
-    not_true : (b : Bool) → not b ≡ true → b ≡ false
-    not_true true e = absurd (cc)
-    not_true false e = refl
-
-    left_no : (a b : Bool) → (a || b) ≡ false → a ≡ false
-    left_no true b e = absurd (cc)
-    left_no false b e = refl
-
-    right_no : (a b : Bool) → (a || b) ≡ false → b ≡ false
-    right_no true b e = absurd (cc)
-    right_no false b e = e
 
 pub among_all : (P : ℕ → Type 0) (ks : List ℕ) (k : ℕ) → AllByRecursion P ks → is_one_of k ks ≡ true → P k
 among_all P [] k h e = absurd (false≢true e)
@@ -76,14 +54,6 @@ all_among P (j ∷ ks) h = (h j (let e = eq-eqb j j refl in rw e refl), all_amon
 
 -- the last of different numbers, and the others
 module _ (all front : List ℕ) (k : ℕ) (popped : all ≡ front ++ k ∷ []) (different : are_different all ≡ true) where
-  or_none : (b : Bool) → (b || false) ≡ b
-  or_none true = refl
-  or_none false = refl
-
-  or_yes : (b : Bool) → (b || true) ≡ true
-  or_yes true = refl
-  or_yes false = refl
-
   among : (j : ℕ) → is_one_of j all ≡ (is_one_of j front || eqb k j)
   among j = ap (is_one_of j) popped ∙ among_more j front k
 
@@ -91,10 +61,10 @@ module _ (all front : List ℕ) (k : ℕ) (popped : all ≡ front ++ k ∷ []) (
   front_different = different_less front k (ap are_different (sym popped) ∙ different)
 
   pub last_among : is_one_of k all ≡ true
-  last_among = among k ∙ (ap (λ b. is_one_of k front || b) (eq-eqb k k refl) ∙ or_yes (is_one_of k front))
+  last_among = among k ∙ (ap (λ b. is_one_of k front || b) (eq-eqb k k refl) ∙ or-true (is_one_of k front))
 
   pub among_else : (j : ℕ) → (j ≡ k → ⊥) → is_one_of j all ≡ is_one_of j front
-  among_else j ne = among j ∙ (ap (λ b. is_one_of j front || b) (ne_eqb k j (λ f. ne (sym f))) ∙ or_none (is_one_of j front))
+  among_else j ne = among j ∙ (ap (λ b. is_one_of j front || b) (ne_eqb k j (λ f. ne (sym f))) ∙ or-false (is_one_of j front))
 
   pub not_last : (j : ℕ) → is_one_of j front ≡ true → j ≡ k → ⊥
   not_last j e f = false≢true (sym front_different.1 ∙ (ap (λ i. is_one_of i front) (sym f) ∙ e))

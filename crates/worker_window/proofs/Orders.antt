@@ -1,17 +1,19 @@
 -- Copies in order: the first copies, sorted, are all copies of their moment.
 use Rattle.std.proofs.Common.{◌≡◌, ℕ, zero, suc, ◌-◌, ◌≤◌, min, Bool, true, false, not, ◌&&◌, ◌||◌, ltb, eqb, List, [], ◌∷◌, map, take, drop, length, Option, Some, None, refl, sym, ap, ◌∙◌, inl, inr, arith, length-drop}
-use Rattle.std.proofs.Math.Seq.{take-length}
-use Rattle.std.specs.List.{slice_get, filter, list_any, list_all, take_while, AllByRecursion}
-use Rattle.std.proofs.lemmas.Bool.{cases_Bool, eqb-true, eqb-false, eq-eqb, ne_eqb, false≢true}
+use Rattle.std.proofs.lemmas.Bool.{cases_Bool, eqb-true, eqb-false, eq-eqb, ne_eqb, false≢true, and_parts}
 use Rattle.std.proofs.lemmas.Bool.Decides.{nat_tests}
+use Rattle.std.proofs.lemmas.List.{length-map}
 use Rattle.std.proofs.lemmas.List.Sums.{take_while-cons}
+use Rattle.net_agenda.specs.Buckets.{arrival_of}
 use Rattle.radio_packet.specs.declared.arrival.Arrival.{Arrival}
 use Rattle.radio_packet.specs.declared.copy.RadioCopy.{RadioCopy}
 use Rattle.window_laws.proofs.Lists.{filter_none, filter_every, every_weaker, every_filter}
 use Rattle.window_laws.specs.Order.{is_before, insert_by, sorted_by, in_order}
 use Rattle.window_laws.specs.Windows.{is_at, NoneBefore, IsQuiet}
-use Rattle.net_agenda.specs.Buckets.{arrival_of}
 use Rattle.worker_window.specs.MoteWindow.{IsNextOf, comes_before, is_rising}
+use Rattle.std.proofs.Math.Seq.{take-length}
+use Rattle.std.specs.List.{slice_get, filter, list_any, list_all, take_while, AllByRecursion}
+use Rattle.worker_window.proofs.Rises.{Rises}
 
 module _ {X : Type 0} where
   every_of : (p : X → Bool) (xs : List X) → list_all p xs ≡ true → AllByRecursion (λ x. p x ≡ true) xs
@@ -26,20 +28,12 @@ module _ {X : Type 0} where
   insert_first first second x [] h = refl
   insert_first first second x (y ∷ ys) h = rw h.0 refl
 
-abbrev pub Rising : List RadioCopy → Type 0
-Rising [] = Unit {0}
-Rising (x ∷ xs) = AllByRecursion (λ y. comes_before x y ≡ true) xs × Rising xs
-
-both : (a b : Bool) → (a && b) ≡ true → (a ≡ true) × (b ≡ true)
-both true b h = (refl, h)
-both false b h = absurd (false≢true h)
-
 rest_rising : (x : RadioCopy) (xs : List RadioCopy) → is_rising (x ∷ xs) ≡ true → is_rising xs ≡ true
-rest_rising x xs h = (both (list_all (comes_before x) xs) (is_rising xs) h).1
+rest_rising x xs h = (and_parts (list_all (comes_before x) xs) (is_rising xs) h).1
 
-pub rises : (xs : List RadioCopy) → is_rising xs ≡ true → Rising xs
+pub rises : (xs : List RadioCopy) → is_rising xs ≡ true → Rises xs
 rises [] h = tt
-rises (x ∷ xs) h = (every_of (comes_before x) xs (both (list_all (comes_before x) xs) (is_rising xs) h).0, rises xs (rest_rising x xs h))
+rises (x ∷ xs) h = (every_of (comes_before x) xs (and_parts (list_all (comes_before x) xs) (is_rising xs) h).0, rises xs (rest_rising x xs h))
 
 pub is_rising-drop : (n : ℕ) (xs : List RadioCopy) → is_rising xs ≡ true → is_rising (drop n xs) ≡ true
 is_rising-drop zero xs h = h
@@ -65,7 +59,7 @@ above m a b h ne g = ne_eqb b m (λ e. ne (omega arith))
 none_at : (m : ℕ) (x : RadioCopy) (xs : List RadioCopy) → m ≤ x.at → is_at m x ≡ false → AllByRecursion (λ y. x.at ≤ y.at) xs → AllByRecursion (λ y. is_at m y ≡ false) xs
 none_at m x xs h e g = every_weaker _ _ (λ y f. above m x.at y.at h (eqb-false x.at m e) f) xs g
 
-front : (m : ℕ) (xs : List RadioCopy) → Rising xs → AllByRecursion (λ y. m ≤ y.at) xs → take_while (is_at m) xs ≡ filter (is_at m) xs
+front : (m : ℕ) (xs : List RadioCopy) → Rises xs → AllByRecursion (λ y. m ≤ y.at) xs → take_while (is_at m) xs ≡ filter (is_at m) xs
 front m [] r h = refl
 front m (x ∷ xs) r h =
     elim (cases_Bool (is_at m x)) [
@@ -73,7 +67,7 @@ front m (x ∷ xs) r h =
       | inr e ↦ take_while-cons (is_at m) x xs ∙ rw e (sym (filter_none (is_at m) xs (none_at m x xs h.0 e (rest_from x xs r.0))))
     ]
 
-behind : (m : ℕ) (xs : List RadioCopy) → Rising xs → AllByRecursion (λ y. m ≤ y.at) xs → drop (length (take_while (is_at m) xs)) xs ≡ filter (λ y. not (is_at m y)) xs
+behind : (m : ℕ) (xs : List RadioCopy) → Rises xs → AllByRecursion (λ y. m ≤ y.at) xs → drop (length (take_while (is_at m) xs)) xs ≡ filter (λ y. not (is_at m y)) xs
 behind m [] r h = refl
 behind m (x ∷ xs) r h =
     elim (cases_Bool (is_at m x)) [
@@ -81,7 +75,7 @@ behind m (x ∷ xs) r h =
       | inr e ↦ ap (λ l. drop (length l) (x ∷ xs)) (take_while-cons (is_at m) x xs) ∙ rw e (ap (λ l. x ∷ l) (sym (filter_every (λ y. not (is_at m y)) xs (every_weaker _ _ (λ y f. ap not f) xs (none_at m x xs h.0 e (rest_from x xs r.0))))))
     ]
 
-sorted_front : (m : ℕ) (xs : List RadioCopy) → Rising xs → in_order (filter (is_at m) xs) ≡ filter (is_at m) xs
+sorted_front : (m : ℕ) (xs : List RadioCopy) → Rises xs → in_order (filter (is_at m) xs) ≡ filter (is_at m) xs
 unfolding sorted_by
 sorted_front m [] r = refl
 sorted_front m (x ∷ xs) r =
@@ -98,16 +92,12 @@ pub record IsTaken (m : ℕ) (xs : List RadioCopy) (given : List Arrival) : Type
   pub given_is : given ≡ map arrival_of (in_order (filter (is_at m) xs))
   pub rest_is : drop (length given) xs ≡ filter (λ y. not (is_at m y)) xs
 
-length_map : {A B : Type 0} (f : A → B) (xs : List A) → length (map f xs) ≡ length xs
-length_map f [] = refl
-length_map f (x ∷ xs) = ap suc (length_map f xs)
-
 pub taken : (m : ℕ) (xs : List RadioCopy) (given : List Arrival) → is_rising xs ≡ true → AllByRecursion (λ y. m ≤ y.at) xs → given ≡ map arrival_of (take_while (is_at m) xs) → IsTaken m xs given
 taken m xs given r h e =
     let rising = rises xs r in
     record {
       given_is = e ∙ ap (map arrival_of) (front m xs rising h ∙ sym (sorted_front m xs rising));
-      rest_is = ap (λ g. drop (length g) xs) e ∙ ap (λ n. drop n xs) (length_map arrival_of (take_while (is_at m) xs)) ∙ behind m xs rising h;
+      rest_is = ap (λ g. drop (length g) xs) e ∙ ap (λ n. drop n xs) (length-map (take_while (is_at m) xs) arrival_of) ∙ behind m xs rising h;
     }
 
 pub quiet_before : (m until : ℕ) (wake : Option ℕ) (xs : List RadioCopy) → IsNextOf m wake xs → until ≤ m → IsQuiet until wake xs

@@ -1,34 +1,29 @@
 -- The window of a worker: the events that its agenda has for each mote, and the events that stay in the share.
-use Rattle.std.proofs.Common.{◌≡◌, ℕ, ◌<◌, ◌≤◌, Bool, true, false, cond, not, ◌&&◌, ltb, eqb, List, [], ◌∷◌, ◌++◌, map}
-use Rattle.std.proofs.Common.{refl, sym, ap, ◌∙◌, subst, inl, inr, arith, append-nil, Option, Some, None}
-use Rattle.std.specs.List.{filter, list_any, AllByRecursion}
-use Rattle.std.proofs.lemmas.Bool.{cases_Bool, cases_lt, eq-eqb, ne_eqb, eqb-true, false≢true, lt-ltb}
+use Rattle.std.proofs.Common.{◌≡◌, ℕ, ◌<◌, ◌≤◌, Bool, true, false, cond, not, ◌&&◌, ltb, eqb, List, [], ◌∷◌, ◌++◌, map, refl, sym, ap, ◌∙◌, subst, inl, inr, arith, append-nil, Option, Some, None}
+use Rattle.std.proofs.lemmas.Bool.{cases_Bool, cases_lt, eq-eqb, ne_eqb, eqb-true, false≢true, lt-ltb, le-ltb, ltb-false, ltb-true}
 use Rattle.std.proofs.lemmas.Bool.Decides.{nat_tests}
 use Rattle.std.proofs.lemmas.List.Elements.{filter-append}
-use Rattle.radio_packet.specs.declared.copy.RadioCopy.{RadioCopy}
-use Rattle.mote_net.specs.Net.{NetModel}
-use Rattle.window_laws.specs.Order.{in_order}
-use Rattle.window_laws.specs.Agenda.{Item, Packet, moment_of, mote_of, is_wake_of, comes_at, packets, wake_items}
-use Rattle.window_laws.specs.Windows.{NoneBefore, is_at, is_from_sender, is_within, copies_by, Alone, Rests}
-use Rattle.window_laws.proofs.Agenda.{packets_filter, packets_append, packets_map, no_wake_in_packets}
-use Rattle.window_laws.proofs.Lists.{filter_filter, filter_both, filter_none, filter_every, filter_never, every_append}
-use Rattle.window_laws.proofs.Lists.{every_weaker, every_filter, every_map, filled_any, unfilled}
-use Rattle.window_laws.proofs.Order.{sorted_rising}
-use Rattle.net_agenda.specs.NetSystem.{system_of}
-use Rattle.worker_window.specs.declared.share.Share.{Share}
-use Rattle.worker_window.specs.Events.{is_not_before, is_one_of, calls_for, TakesCopiesFor}
+use Rattle.std.specs.List.{filter, list_any, AllByRecursion}
 use Rattle.copy_exchange.specs.Crossed.{is_own, copies_seen, IsExpected}
+use Rattle.mote_net.specs.Net.{NetModel}
+use Rattle.net_agenda.specs.NetSystem.{system_of}
+use Rattle.radio_packet.specs.declared.copy.RadioCopy.{RadioCopy}
+use Rattle.window_laws.proofs.Agenda.{packets_filter, packets_append, packets_map, no_wake_in_packets}
+use Rattle.window_laws.proofs.Lists.{filter_filter, filter_both, filter_none, filter_every, filter_never, every_append, every_weaker, every_filter, every_map, filled_any, unfilled}
+use Rattle.window_laws.specs.Agenda.{Item, Packet, moment_of, mote_of, is_wake_of, comes_at, packets, wake_items}
+use Rattle.window_laws.specs.Order.{in_order}
+use Rattle.window_laws.specs.Windows.{NoneBefore, is_at, is_from_sender, is_within, copies_by, Alone, Rests}
+use Rattle.worker_window.specs.Events.{is_not_before, is_one_of, calls_for, TakesCopiesFor}
 use Rattle.worker_window.specs.Share.{Motes, IsWholeShare, is_to_come, wake_from}
+use Rattle.worker_window.specs.declared.share.Share.{Share}
+use Rattle.window_laws.proofs.Order.{sorted_rising}
 use Rattle.worker_window.proofs.Items.{inside, all_wakes, packets_of_all}
 use Rattle.worker_window.proofs.Rises.{sorted_is_sorted}
 
 -- the tests as statements about numbers
-still_later : (own : Bool) (at from moment : ℕ) → from ≤ moment → (own && not (ltb at moment)) ≡ ((own && not (ltb at from)) && not (ltb at moment))
+pub still_later : (own : Bool) (at from moment : ℕ) → from ≤ moment → (own && not (ltb at moment)) ≡ ((own && not (ltb at from)) && not (ltb at moment))
 still_later true at from moment h = grind (arith, nat_tests)
 still_later false at from moment h = refl
-
-comes : (at from : ℕ) → from ≤ at → not (ltb at from) ≡ true
-comes at from h = grind (arith, nat_tests)
 
 within_is : (mine own : Bool) (at from until : ℕ) → (mine ≡ true → own ≡ true) → (mine && (not (ltb at from) && ltb at until)) ≡ ((own && not (ltb at from)) && (ltb at until && mine))
 within_is true own at from until h = let e = h refl in rw e (with_true (not (ltb at from)) (ltb at until))
@@ -78,7 +73,7 @@ module _ (n : NetModel) (owners : List ℕ) (worker from until : ℕ) (motes : M
   none_own s e = filter_none (is_from_sender s) arrived (every_weaker _ _ (λ c h. ne_eqb c.sender s (λ f. false≢true (sym h.sender ∙ (ap own f ∙ e)))) arrived come)
 
   all_come : (s : ℕ) → filter (is_to_come own from) (filter (is_from_sender s) arrived) ≡ filter (is_from_sender s) arrived
-  all_come s = filter_every (is_to_come own from) (filter (is_from_sender s) arrived) (every_filter _ _ (is_from_sender s) (λ c h e. (let a = h.to in let b = comes c.at from h.later in rw (a, b) refl)) arrived come)
+  all_come s = filter_every (is_to_come own from) (filter (is_from_sender s) arrived) (every_filter _ _ (is_from_sender s) (λ c h e. (let a = h.to in let b = ap not (le-ltb c.at from h.later) in rw (a, b) refl)) arrived come)
 
   pub packets_are : packets items ≡ packets keeps.agenda.items ++ arrived
   packets_are = packets_append keeps.agenda.items (map Packet arrived) ∙ ap (λ l. packets keeps.agenda.items ++ l) (packets_map arrived)
@@ -146,15 +141,9 @@ module _ (n : NetModel) (owners : List ℕ) (worker from until : ℕ) (motes : M
   at_window_copies : (k t : ℕ) → filter (is_at t) (window_copies k) ≡ cond (ltb t until) (packets (filter (comes_at t k) items)) []
   at_window_copies k t =
       elim (cases_Bool (ltb t until)) [
-        | inl e ↦ rw e (filter_both (is_at t) (is_soon k) (λ c. comes_at t k (Packet c)) (λ c. due_soon c.at c.to t k until (soon e)) (packets items) ∙ sym (packets_filter (comes_at t k) items))
-        | inr e ↦ rw e (filter_both (is_at t) (is_soon k) (λ c. false) (λ c. never_soon c.at c.to t k until (not_soon e)) (packets items) ∙ filter_never (packets items))
+        | inl e ↦ rw e (filter_both (is_at t) (is_soon k) (λ c. comes_at t k (Packet c)) (λ c. due_soon c.at c.to t k until (ltb-true t until e)) (packets items) ∙ sym (packets_filter (comes_at t k) items))
+        | inr e ↦ rw e (filter_both (is_at t) (is_soon k) (λ c. false) (λ c. never_soon c.at c.to t k until (ltb-false t until e)) (packets items) ∙ filter_never (packets items))
       ]
-    where
-      soon : ltb t until ≡ true → t < until
-      soon e = grind (arith, nat_tests)
-
-      not_soon : ltb t until ≡ false → until ≤ t
-      not_soon e = grind (arith, nat_tests)
 
   in_order_again : (xs : List RadioCopy) → in_order (in_order xs) ≡ in_order xs
   in_order_again xs = sorted_rising (λ copy. copy.sender) (λ copy. copy.number) (in_order xs) (sorted_is_sorted (λ copy. copy.sender) (λ copy. copy.number) xs)

@@ -1,8 +1,7 @@
 -- A list in which one element was replaced.
-use Rattle.std.specs.Prelude.{IfSome, IsSomeAnd}
+use Rattle.std.proofs.Common.{◌≡◌, ℕ, zero, suc, ◌<◌, List, [], ◌∷◌, length, get_or, set, refl, subst, sym, arith, Option, Some, None, IsSome, get_or-set_same, get_or-set_other}
 use Rattle.std.proofs.lemmas.Bool.{false≢true}
-use Rattle.std.proofs.Common.{◌≡◌, ℕ, zero, suc, ◌<◌, List, [], ◌∷◌, length, get_or, set, refl, subst, sym, arith, Option, Some, None, IsSome, get_or-set_same}
-use Rattle.std.proofs.Common.{get_or-set_other}
+use Rattle.std.specs.Prelude.{IfSome, IsSomeAnd}
 
 -- an element that was read is there, whatever stands for a missing one
 pub at_place : {X : Type 0} (xs : List X) (k : ℕ) (x d : X) → x ≡ get_or xs k x → k < length xs → get_or xs k d ≡ x

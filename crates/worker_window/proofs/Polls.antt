@@ -1,26 +1,26 @@
 -- The possible results of a window, at its end and before a turn.
-use Rattle.std.proofs.Common.{◌≡◌, ◌∙◌, ℕ, not, List, map, drop, Option, Some, None, Result, Ok, Err, option_map, refl, sym, ap, subst}
-use Rattle.std.specs.Prelude.{IfSome, MatchOption}
+use Rattle.std.proofs.Common.{◌≡◌, ℕ, not, List, map, drop, Option, Some, None, Result, Ok, Err, option_map, refl, sym, ap, subst}
 use Rattle.std.specs.List.{filter}
-use Rattle.trace_lines.specs.declared.line.Line.{Line}
-use Rattle.mote_node.specs.declared.mote.MoteError.{MoteError}
-use Rattle.mote_node.specs.Turn.{Node}
-use Rattle.mote_node.specs.Public.{node_in}
-use Rattle.program_tree.specs.Code.{Tree}
+use Rattle.std.specs.Prelude.{IfSome, MatchOption}
 use Rattle.mote_laws.proofs.Stamps.{turns_stamp}
+use Rattle.mote_node.specs.Public.{node_in}
+use Rattle.mote_node.specs.Turn.{Node}
+use Rattle.mote_node.specs.declared.mote.MoteError.{MoteError}
+use Rattle.net_agenda.specs.Buckets.{arrival_of}
+use Rattle.program_tree.specs.Code.{Tree}
 use Rattle.radio_packet.specs.declared.copy.RadioCopy.{RadioCopy}
+use Rattle.trace_lines.specs.declared.line.Line.{Line}
 use Rattle.window_laws.specs.Order.{in_order}
 use Rattle.window_laws.specs.System.{Turned}
 use Rattle.window_laws.specs.Windows.{after_lone_turn, is_at, Alone}
-use Rattle.window_laws.specs.Windows.Alone.{Rests, Turns}
-use Rattle.net_agenda.specs.Buckets.{arrival_of}
-use Rattle.worker_window.specs.declared.out.WindowOut.{WindowOut}
-use Rattle.worker_window.specs.MoteWindow.{Window, LoneNode, HasTurn, IsOver, window_after_turn, EndsAs, node_number}
 use Rattle.worker_window.specs.Laws.{IsAhead}
+use Rattle.worker_window.specs.MoteWindow.{Window, LoneNode, HasTurn, IsOver, window_after_turn, EndsAs, node_number}
 use Rattle.worker_window.specs.Out.{shown, Gives, out_of}
-use Rattle.worker_window.specs.declared.own.OwnWindow.{OwnWindow}
 use Rattle.worker_window.specs.Own.{window_in, course_in, window_over, IsFinished, GivesNoMore}
 use Rattle.worker_window.specs.Turns.{MayGive, MayAnswer, TurnsTo, TakesTurn, IsFirstTurn, CanGoOn, HasTurns, RestsAs}
+use Rattle.worker_window.specs.declared.out.WindowOut.{WindowOut}
+use Rattle.worker_window.specs.declared.own.OwnWindow.{OwnWindow}
+use Rattle.window_laws.specs.Windows.Alone.{Rests, Turns}
 use Rattle.worker_window.proofs.Ahead.{no_turn_is_past}
 
 -- a window in which no turn is left has its own result

@@ -1,26 +1,26 @@
 -- The window of a worker: its motes have run, and come to rest one after another.
-use Rattle.std.proofs.Common.{◌≡◌, ℕ, ◌+◌, ◌<◌, ◌≤◌, ◌^◌, Bool, true, false, not, ◌&&◌, List, [], ◌∷◌, ◌++◌}
-use Rattle.std.proofs.Common.{length, refl, sym, ap, ◌∙◌, subst, inl, inr, arith, append_assoc, Option, Some, None}
-use Rattle.std.specs.Prelude.{IfSome, IsSomeAnd, Vec}
-use Rattle.std.specs.declared.alloc.Global.{Global}
-use Rattle.std.specs.List.{filter, flat_map, AllByRecursion}
-use Rattle.std.proofs.lemmas.Bool.{cases_eq, false≢true}
+use Rattle.std.proofs.Common.{◌≡◌, ℕ, ◌+◌, ◌<◌, ◌≤◌, ◌^◌, Bool, true, false, not, ◌&&◌, List, [], ◌∷◌, ◌++◌, length, refl, sym, ap, ◌∙◌, subst, inl, inr, arith, append_assoc, Option, Some, None}
+use Rattle.std.proofs.Math.Bool.{and-true}
+use Rattle.std.proofs.lemmas.Bool.{cases_eq, false≢true, not-true}
 use Rattle.std.proofs.lemmas.List.Elements.{filter-append}
-use Rattle.radio_packet.specs.declared.copy.RadioCopy.{RadioCopy}
-use Rattle.radio_medium.specs.Medium.{copies}
-use Rattle.radio_medium.proofs.Copies.{copies_later}
-use Rattle.mote_net.specs.Net.{NetModel}
-use Rattle.window_laws.specs.Windows.{Alone, is_at, is_within, is_from_sender}
-use Rattle.window_laws.proofs.Lists.{every_append, every_weaker, every_filter, every_flat_map}
-use Rattle.net_agenda.specs.NetSystem.{system_of}
-use Rattle.worker_window.specs.declared.own.OwnWindow.{OwnWindow}
-use Rattle.worker_window.specs.declared.share.Share.{Share}
-use Rattle.worker_window.specs.Out.{out_of}
+use Rattle.std.specs.List.{filter, flat_map, AllByRecursion}
 use Rattle.copy_exchange.specs.Crossed.{is_own, copies_seen, is_for_others}
+use Rattle.mote_net.specs.Net.{NetModel}
+use Rattle.net_agenda.specs.NetSystem.{system_of}
+use Rattle.radio_medium.proofs.Copies.{copies_later}
+use Rattle.radio_medium.specs.Medium.{copies}
+use Rattle.radio_packet.specs.declared.copy.RadioCopy.{RadioCopy}
+use Rattle.window_laws.proofs.Lists.{every_append, every_weaker, every_filter, every_flat_map}
+use Rattle.window_laws.specs.Windows.{Alone, is_at, is_within, is_from_sender}
+use Rattle.worker_window.specs.Events.{is_one_of, are_different}
+use Rattle.worker_window.specs.Out.{out_of}
+use Rattle.worker_window.specs.Resting.{ComesToRest, HasSent}
 use Rattle.worker_window.specs.Share.{Motes, IsShare, mote_here}
 use Rattle.worker_window.specs.Window.{IsOutgoing, RunsWindow, outgoing_by}
-use Rattle.worker_window.specs.Resting.{ComesToRest, HasSent}
-use Rattle.worker_window.specs.Events.{is_one_of, are_different}
+use Rattle.worker_window.specs.declared.own.OwnWindow.{OwnWindow}
+use Rattle.worker_window.specs.declared.share.Share.{Share}
+use Rattle.std.specs.Prelude.{Vec, IfSome, IsSomeAnd}
+use Rattle.std.specs.declared.alloc.Global.{Global}
 use Rattle.worker_window.proofs.Numbers.{front_different, last_among, among_else, not_last, still_among}
 use Rattle.worker_window.proofs.Places.{put_else}
 use Rattle.worker_window.proofs.Gives.{IsSentIn, IsBack, come_late}
@@ -42,13 +42,9 @@ fits n owners worker until motes number own fit e early =
 pub go_out : (n : NetModel) (owners : List ℕ) (worker until number : ℕ) (own : OwnWindow) → length n.radio.places ≡ length n.motes → IsFitOwn n owners worker until number own
     → AllByRecursion (IsOutgoing n owners worker) (filter (is_for_others (is_own owners worker)) (flat_map (copies n.radio) own.sends.items))
 go_out n owners worker until number own placed fit =
-    every_filter _ _ (is_for_others (is_own owners worker)) (λ c h e. record { sender = ap (is_own owners worker) h.0 ∙ fit.mine; to = not_true (is_own owners worker c.to) e; there = h.1 }) (flat_map (copies n.radio) own.sends.items)
+    every_filter _ _ (is_for_others (is_own owners worker)) (λ c h e. record { sender = ap (is_own owners worker) h.0 ∙ fit.mine; to = not-true (is_own owners worker c.to) e; there = h.1 }) (flat_map (copies n.radio) own.sends.items)
     (every_flat_map (λ c. (c.sender ≡ number) × (c.to < length n.motes)) (copies n.radio) own.sends.items
     (every_weaker _ _ (λ x g. every_weaker _ _ (λ c i. (i.sender ∙ g.sender, let t = i.there in omega (arith, placed))) (copies n.radio x) (copies_later n.radio x)) own.sends.items fit.sent))
-  where
-    not_true : (b : Bool) → not b ≡ true → b ≡ false
-    not_true true e = absurd (cc)
-    not_true false e = refl
 
 -- a mote that is there, and what is known of it
 pub record IsHere (P Q : OwnWindow → Type 0) (mote : Option OwnWindow) : Type 0 where
@@ -164,10 +160,6 @@ module _ (n : NetModel) (owners : List ℕ) (worker from until : ℕ) (motes : M
       late = late_then;
     }
 
-  and_yes : (b : Bool) → (b && true) ≡ b
-  and_yes true = refl
-  and_yes false = refl
-
   -- all motes are at rest
   pub all_rest : (rest : List ℕ) (share : Share) (outgoing : List RadioCopy) → rest ≡ [] → State rest share outgoing
       → ((k : ℕ) → mine k ≡ true → (t s : ℕ) → filter (is_from_sender s) (filter (is_at t) (window_copies k)) ≡ filter (is_at t) (filter (is_within k from until) (copies_seen (system_of n) mine motes taken s)))
@@ -197,4 +189,4 @@ module _ (n : NetModel) (owners : List ℕ) (worker from until : ℕ) (motes : M
       s = state.in_state
 
       present : (k : ℕ) → mine k ≡ true → (mine k && not (is_one_of k rest)) ≡ true
-      present k h = ap (λ ks. mine k && not (is_one_of k ks)) none ∙ (and_yes (mine k) ∙ h)
+      present k h = ap (λ ks. mine k && not (is_one_of k ks)) none ∙ (and-true (mine k) ∙ h)

@@ -1,14 +1,14 @@
 -- The order of copies.
 use Rattle.std.proofs.Common.{◌≡◌, ℕ, ◌<◌, Bool, true, false, not, ◌&&◌, ◌||◌, ltb, eqb, List, [], ◌∷◌, ◌++◌, map, refl, sym, ap, ◌∙◌, inl, inr, arith}
-use Rattle.std.specs.List.{list_all, AllByRecursion}
 use Rattle.std.proofs.lemmas.Bool.{cases_Bool}
 use Rattle.std.proofs.lemmas.Bool.Decides.{nat_tests}
-use Rattle.radio_packet.specs.declared.copy.RadioCopy.{RadioCopy}
-use Rattle.window_laws.specs.Order.{is_before, insert_by, sorted_by, in_order}
-use Rattle.window_laws.proofs.Lists.{every_append, every_weaker, every_both}
+use Rattle.std.specs.List.{list_all, AllByRecursion}
 use Rattle.net_agenda.specs.Buckets.{arrival_of}
-use Rattle.worker_window.specs.MoteWindow.{comes_before, is_rising}
 use Rattle.net_agenda.specs.Items.{copy_at}
+use Rattle.radio_packet.specs.declared.copy.RadioCopy.{RadioCopy}
+use Rattle.window_laws.proofs.Lists.{every_append, every_weaker, every_both}
+use Rattle.window_laws.specs.Order.{is_before, insert_by, sorted_by, in_order}
+use Rattle.worker_window.specs.MoteWindow.{comes_before, is_rising}
 
 -- `is_before` as a statement about numbers
 chained : (s a t b u c : ℕ) → (ltb s t || (eqb s t && not (ltb b a))) ≡ true → (ltb t u || (eqb t u && not (ltb c b))) ≡ true → (ltb s u || (eqb s u && not (ltb c a))) ≡ true

@@ -1,18 +1,18 @@
 -- Copies and packets are sent one after another.
 use Rattle.std.proofs.Common.{◌≡◌, ℕ, ◌+◌, ◌<◌, Bool, true, List, [], ◌∷◌, ◌++◌, length, map, take, get_or, refl, sym, ap, ◌∙◌, append-nil, append_assoc, Option, Some, None}
-use Rattle.std.specs.Prelude.{Result, Ok, Err}
-use Rattle.std.specs.Result.{OnOk}
-use Rattle.std.specs.List.{filter, filter_map, flat_map, list_all}
 use Rattle.std.proofs.lemmas.Bool.{and_parts}
 use Rattle.std.proofs.lemmas.List.{map-append, take_more}
 use Rattle.std.proofs.lemmas.List.Concat.{flat_map-append}
 use Rattle.std.proofs.lemmas.List.Elements.{filter-append, filter_map-append}
+use Rattle.std.specs.List.{filter, filter_map, flat_map, list_all}
+use Rattle.std.specs.Result.{OnOk}
+use Rattle.copy_exchange.specs.Crossed.{is_for_others}
+use Rattle.radio_medium.specs.Medium.{copy_of}
 use Rattle.radio_packet.specs.declared.copy.RadioCopy.{RadioCopy}
 use Rattle.radio_packet.specs.declared.fate.Fate.{Fate}
 use Rattle.radio_packet.specs.declared.sent.Sent.{Sent}
-use Rattle.radio_medium.specs.Medium.{copy_of}
 use Rattle.window_laws.specs.Agenda.{Item, Packet}
-use Rattle.copy_exchange.specs.Crossed.{is_for_others}
+use Rattle.std.specs.Prelude.{Result, Ok, Err}
 
 -- a list that is made piece by piece from another list
 module _ {A B : Type 0} (made : List A → List B) (splits : (xs ys : List A) → made (xs ++ ys) ≡ made xs ++ made ys) where

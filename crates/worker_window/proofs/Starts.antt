@@ -1,31 +1,30 @@
 -- The motes run through their windows: they have their copies, and then the results of their windows.
-use Rattle.std.proofs.Common.{◌≡◌, ℕ, ◌<◌, ◌≤◌, Bool, true, false, not, ◌&&◌, ltb, eqb, List, [], ◌∷◌, ◌++◌, length, map}
-use Rattle.std.proofs.Common.{refl, sym, ap, ◌∙◌, subst, inl, inr, arith, append-nil, zero-le, IsSome, Option, Some, None}
-use Rattle.std.specs.Prelude.{IsSomeAnd}
-use Rattle.std.specs.List.{filter, list_any, AllByRecursion}
+use Rattle.std.proofs.Common.{◌≡◌, ℕ, ◌<◌, ◌≤◌, Bool, true, false, not, ◌&&◌, ltb, eqb, List, [], ◌∷◌, ◌++◌, length, map, refl, sym, ap, ◌∙◌, subst, inl, inr, arith, append-nil, zero-le, IsSome, Option, Some, None}
 use Rattle.std.proofs.lemmas.Bool.{cases_Bool, and_parts, eqb-true, false≢true}
-use Rattle.program_tree.specs.Code.{Tree}
-use Rattle.trace_lines.specs.declared.line.Line.{Line}
-use Rattle.mote_node.specs.Turn.{Node, wake_of}
-use Rattle.mote_node.specs.Public.{node_in}
-use Rattle.radio_packet.specs.declared.copy.RadioCopy.{RadioCopy}
+use Rattle.std.specs.List.{filter, list_any, AllByRecursion}
+use Rattle.std.specs.Prelude.{IsSomeAnd}
+use Rattle.copy_exchange.specs.Crossed.{is_own, IsExpected}
 use Rattle.mote_net.specs.Net.{NetModel}
-use Rattle.window_laws.specs.Agenda.{Item, Packet, moment_of, mote_of}
-use Rattle.window_laws.specs.Windows.{LoneMote, is_sent_by, NoneBefore, IsQuiet}
-use Rattle.window_laws.proofs.Lists.{any_every, every_weaker, every_append, every_map}
-use Rattle.worker_window.specs.declared.own.OwnWindow.{OwnWindow}
-use Rattle.worker_window.specs.Out.{out_of}
-use Rattle.worker_window.specs.Own.{KeepsMote}
-use Rattle.worker_window.proofs.Ends.{not_before}
+use Rattle.mote_node.specs.Public.{node_in}
+use Rattle.mote_node.specs.Turn.{Node, wake_of}
 use Rattle.net_agenda.specs.Buckets.{HoldsItems}
 use Rattle.net_agenda.specs.NetSystem.{tree_at, system_of}
-use Rattle.worker_window.specs.declared.share.Share.{Share}
+use Rattle.program_tree.specs.Code.{Tree}
+use Rattle.radio_packet.specs.declared.copy.RadioCopy.{RadioCopy}
+use Rattle.trace_lines.specs.declared.line.Line.{Line}
+use Rattle.window_laws.proofs.Lists.{any_every, every_weaker, every_append, every_map}
+use Rattle.window_laws.specs.Agenda.{Item, Packet, moment_of, mote_of}
+use Rattle.window_laws.specs.Windows.{LoneMote, is_sent_by, NoneBefore, IsQuiet}
 use Rattle.worker_window.specs.Events.{CanTakeEvents, IsSameMote, TakesCopiesFor, TakesEventsBefore, calls_for, held_copies, is_called, is_one_of}
-use Rattle.copy_exchange.specs.Crossed.{is_own, IsExpected}
 use Rattle.worker_window.specs.Log.{HaveFates, packets_in}
+use Rattle.worker_window.specs.Out.{out_of}
+use Rattle.worker_window.specs.Own.{KeepsMote}
 use Rattle.worker_window.specs.Share.{Motes, HoldsMote, IsBetweenWindows, IsWholeShare, mote_here}
 use Rattle.worker_window.specs.Window.{CanRun, outgoing_by}
 use Rattle.worker_window.specs.Worker.{AreCalled, CanAllGoOn, CanMoteGoOn, MayEnd, MayEndAs}
+use Rattle.worker_window.specs.declared.own.OwnWindow.{OwnWindow}
+use Rattle.worker_window.specs.declared.share.Share.{Share}
+use Rattle.worker_window.proofs.Ends.{not_before}
 use Rattle.worker_window.proofs.Begins.{own_there}
 use Rattle.worker_window.proofs.NoTurnIsPast.{past_later}
 use Rattle.worker_window.proofs.Gives.{IsBack, back, gives_open, goes_open}

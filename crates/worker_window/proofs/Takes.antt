@@ -1,27 +1,25 @@
 -- The window after a turn, computed from the values in the code.
-use Rattle.std.proofs.Common.{◌≡◌, ℕ, suc, ◌≤◌, true, List, [], ◌∷◌, ◌++◌, map, drop, length, Option, Some, None}
-use Rattle.std.proofs.Common.{option_map, refl, sym, ap, arith}
-use Rattle.std.specs.Prelude.{IfSome}
+use Rattle.std.proofs.Common.{◌≡◌, ℕ, suc, ◌≤◌, true, List, [], ◌∷◌, ◌++◌, map, drop, length, Option, Some, None, option_map, refl, sym, ap, arith}
 use Rattle.std.specs.List.{filter, take_while}
+use Rattle.std.specs.Prelude.{IfSome}
+use Rattle.mote_laws.proofs.Stamps.{turns_stamp}
+use Rattle.mote_node.specs.Public.{turn_given, node_in}
+use Rattle.mote_node.specs.Turn.{Node, turn_of}
+use Rattle.net_agenda.specs.Buckets.{arrival_of}
 use Rattle.program_tree.specs.Code.{Tree}
 use Rattle.radio_packet.specs.declared.arrival.Arrival.{Arrival}
-use Rattle.trace_lines.specs.declared.line.Line.{Line}
+use Rattle.radio_packet.specs.declared.copy.RadioCopy.{RadioCopy}
 use Rattle.radio_packet.specs.declared.sent.Sent.{Sent}
+use Rattle.trace_lines.specs.declared.line.Line.{Line}
+use Rattle.window_laws.specs.NetStep.{stamped}
+use Rattle.window_laws.specs.Order.{in_order}
+use Rattle.window_laws.specs.Windows.{is_at}
+use Rattle.worker_window.specs.MoteWindow.{HasTurn, IsNextOf, IsOver, window_after_turn, node_number, is_rising}
+use Rattle.worker_window.specs.Own.{window_in, window_over}
+use Rattle.worker_window.specs.Turns.{TurnsTo}
+use Rattle.worker_window.specs.declared.own.OwnWindow.{OwnWindow}
 use Rattle.kernel_laws.specs.Stamps.{PacketsBear}
 use Rattle.mote_node.specs.declared.mote.TurnOut.{TurnOut}
-use Rattle.mote_node.specs.Turn.{Node, turn_of}
-use Rattle.mote_node.specs.Public.{turn_given}
-use Rattle.mote_laws.proofs.Stamps.{turns_stamp}
-use Rattle.radio_packet.specs.declared.copy.RadioCopy.{RadioCopy}
-use Rattle.window_laws.specs.Order.{in_order}
-use Rattle.window_laws.specs.NetStep.{stamped}
-use Rattle.window_laws.specs.Windows.{is_at}
-use Rattle.mote_node.specs.Public.{node_in}
-use Rattle.net_agenda.specs.Buckets.{arrival_of}
-use Rattle.worker_window.specs.declared.own.OwnWindow.{OwnWindow}
-use Rattle.worker_window.specs.Own.{window_in, window_over}
-use Rattle.worker_window.specs.MoteWindow.{HasTurn, IsNextOf, IsOver, window_after_turn, node_number, is_rising}
-use Rattle.worker_window.specs.Turns.{TurnsTo}
 use Rattle.worker_window.proofs.Orders.{IsTaken, taken, quiet_before}
 
 -- packets that already have the stamp of a turn are unchanged by the stamp

@@ -1,20 +1,21 @@
 -- The events that are taken out of an agenda, bucket by bucket.
 use Rattle.std.proofs.Common.{◌≡◌, ℕ, ◌<◌, ◌≤◌, Bool, true, false, cond, not, ◌&&◌, ◌||◌, ltb, eqb, List, [], ◌∷◌, ◌++◌, map, refl, sym, ap, ◌∙◌, subst, inl, inr, arith, append_assoc, append-nil, Some}
-use Rattle.std.specs.List.{filter, list_any, AllByRecursion}
-use Rattle.std.proofs.lemmas.Bool.{cases_Bool, cases_eq, eq-eqb, ne_eqb, eqb-true, and_parts}
+use Rattle.std.proofs.Math.Bool.{or-false, or-true}
+use Rattle.std.proofs.lemmas.Bool.{cases_Bool, cases_eq, eq-eqb, ne_eqb, eqb-true, and_parts, ltb-false, ltb-true, not-true}
 use Rattle.std.proofs.lemmas.Bool.Decides.{nat_tests}
 use Rattle.std.proofs.lemmas.List.Elements.{filter-append}
+use Rattle.std.specs.List.{filter, list_any, AllByRecursion}
+use Rattle.net_agenda.proofs.Ranks.{turns_left, left_falls}
+use Rattle.net_agenda.specs.Buckets.{Buckets, HoldsItems, arrivals_at, first_key}
+use Rattle.net_agenda.specs.Items.{copy_at}
 use Rattle.radio_packet.specs.declared.arrival.Arrival.{Arrival}
 use Rattle.radio_packet.specs.declared.copy.RadioCopy.{RadioCopy}
-use Rattle.window_laws.specs.Order.{sorted_by, in_order}
-use Rattle.window_laws.specs.Agenda.{Item, Wake, Packet, moment_of, mote_of, comes_at, packets, IsLeast}
-use Rattle.window_laws.specs.Windows.{is_at}
 use Rattle.window_laws.proofs.Lists.{filter_none, filter_every, filter_stronger, every_append, every_weaker, every_filter, every_both, any_every, filled_any, is_filled}
-use Rattle.window_laws.proofs.Ahead.{on_from}
-use Rattle.net_agenda.specs.Buckets.{Buckets, HoldsItems, arrivals_at, first_key}
-use Rattle.net_agenda.proofs.Ranks.{turns_left, left_falls}
-use Rattle.net_agenda.specs.Items.{copy_at}
+use Rattle.window_laws.specs.Agenda.{Item, Wake, Packet, moment_of, mote_of, comes_at, packets, IsLeast}
+use Rattle.window_laws.specs.Order.{sorted_by, in_order}
+use Rattle.window_laws.specs.Windows.{is_at}
 use Rattle.worker_window.specs.Events.{is_not_before, calls_for, TakesCopiesFor}
+use Rattle.window_laws.proofs.Ahead.{on_from}
 use Rattle.worker_window.proofs.Rises.{Rises, in_order_rises, rises_on, is_rising_from, copies_again, every_sorted}
 
 -- some items were taken, each mote was given its copies, and the buckets hold the rest
@@ -64,14 +65,6 @@ sooner_at c t until h k = ne_eqb c t (λ e. absurd (omega arith))
 in_order_nil : in_order [] ≡ []
 unfolding sorted_by
 in_order_nil = refl
-
-or_true : (b : Bool) → (b || true) ≡ true
-or_true true = refl
-or_true false = refl
-
-or_false : (b : Bool) → (b || false) ≡ b
-or_false true = refl
-or_false false = refl
 
 -- a test that implies another
 any_within : {X : Type 0} (q p : X → Bool) → ((x : X) → q x ≡ true → p x ≡ true) → (xs : List X) → list_any q (filter p xs) ≡ list_any q xs
@@ -163,12 +156,8 @@ module _ (until : ℕ) (items : List Item) (given : ℕ → List RadioCopy) (cal
     rest_elsewhere s k ne = filter_stronger (comes_at s k) (λ item. not (comes_at t m item)) (λ item e. due_elsewhere (moment_of item) (mote_of item) s k t m ne e) part.rest
 
     rest_here : filter (comes_at t m) rest ≡ []
-    rest_here = filter_none (comes_at t m) rest (every_filter (λ item. Unit {0}) _ (λ item. not (comes_at t m item)) (λ item _ e. not_true (comes_at t m item) e) part.rest (units part.rest))
+    rest_here = filter_none (comes_at t m) rest (every_filter (λ item. Unit {0}) _ (λ item. not (comes_at t m item)) (λ item _ e. not-true (comes_at t m item) e) part.rest (units part.rest))
       where
-        not_true : (b : Bool) → not b ≡ true → b ≡ false
-        not_true true e = absurd (cc)
-        not_true false e = refl
-
         units : (xs : List Item) → AllByRecursion (λ item. Unit {0}) xs
         units [] = tt
         units (x ∷ xs) = (tt, units xs)
@@ -197,7 +186,7 @@ module _ (until : ℕ) (items : List Item) (given : ℕ → List RadioCopy) (cal
     calls_mine =
         part.calls m
         ∙ (ap (λ b. called m || b) (any_weaker (comes_at t m) (calls_for until m) (λ item e. due_calls (moment_of item) (mote_of item) until t m soon e) part.rest least.is_there)
-        ∙ (or_true (called m) ∙ sym (ap (λ b. b || list_any (calls_for until m) rest) called_now)))
+        ∙ (or-true (called m) ∙ sym (ap (λ b. b || list_any (calls_for until m) rest) called_now)))
 
     calls_other : (k : ℕ) → (k ≡ m → ⊥) → list_any (calls_for until k) items ≡ (new_called k || list_any (calls_for until k) rest)
     calls_other k ne =
@@ -255,22 +244,16 @@ module _ (until : ℕ) (items : List Item) (given : ℕ → List RadioCopy) (cal
       elim (cases_Bool (ltb t until)) [
         | inl e ↦ rw e (sym (part.parts t k
             ∙ (ap (λ l. filter (is_at t) (given k) ++ in_order (packets l))
-            (filter_none (comes_at t k) part.rest (every_weaker _ _ (λ item h. none_due until t k (moment_of item) (mote_of item) (soon e) h) part.rest over))
+            (filter_none (comes_at t k) part.rest (every_weaker _ _ (λ item h. none_due until t k (moment_of item) (mote_of item) (ltb-true t until e) h) part.rest over))
             ∙ (ap (λ l. filter (is_at t) (given k) ++ l) in_order_nil ∙ append-nil (filter (is_at t) (given k))))))
-        | inr e ↦ rw e (filter_none (is_at t) (given k) (every_weaker _ _ (λ c h. sooner_at c.at t until h (not_soon e)) (given k) (part.early k)))
+        | inr e ↦ rw e (filter_none (is_at t) (given k) (every_weaker _ _ (λ c h. sooner_at c.at t until h (ltb-false t until e)) (given k) (part.early k)))
       ]
-    where
-      soon : ltb t until ≡ true → t < until
-      soon e = grind (arith, nat_tests)
-
-      not_soon : ltb t until ≡ false → until ≤ t
-      not_soon e = grind (arith, nat_tests)
 
   -- the called motes are those with an event
   pub calls_are : (k : ℕ) → called k ≡ list_any (calls_for until k) items
   calls_are k =
       sym (part.calls k
-      ∙ (ap (λ b. called k || b) (any_none (calls_for until k) part.rest (every_weaker _ _ (λ item h. none_calls until (moment_of item) (mote_of item) k h) part.rest over)) ∙ or_false (called k)))
+      ∙ (ap (λ b. called k || b) (any_none (calls_for until k) part.rest (every_weaker _ _ (λ item h. none_calls until (moment_of item) (mote_of item) k h) part.rest over)) ∙ or-false (called k)))
 
   pub takes_copies : (k : ℕ) → TakesCopiesFor until items k (given k)
   takes_copies k = record { rising = is_rising_from (given k) (part.rises k); all = at_each k }
@@ -287,8 +270,4 @@ pub bucket_later : (until : ℕ) (items : List Item) (given : ℕ → List Radio
 bucket_later until items given called buckets after part t m least soon low first holds =
     let le : t ≤ until = omega arith in
     left_falls 65536 until t m (filter (λ item. not (comes_at t m item)) part.rest) (first_key buckets) (first_key after) after first low le
-    (every_filter _ _ (λ item. not (comes_at t m item)) (λ item h e. on_from t m (moment_of item) (mote_of item) h (not_true (comes_at t m item) e)) part.rest least.is_first) holds refl
-  where
-    not_true : (b : Bool) → not b ≡ true → b ≡ false
-    not_true true e = absurd (cc)
-    not_true false e = refl
+    (every_filter _ _ (λ item. not (comes_at t m item)) (λ item h e. on_from t m (moment_of item) (mote_of item) h (not-true (comes_at t m item) e)) part.rest least.is_first) holds refl

@@ -1,14 +1,14 @@
 -- Between two windows, a share takes in copies that arrived.
 use Rattle.std.proofs.Common.{◌∙◌, ℕ, ◌++◌, List, map, arith, sym}
 use Rattle.std.specs.List.{AllByRecursion}
-use Rattle.radio_packet.specs.declared.copy.RadioCopy.{RadioCopy}
-use Rattle.mote_net.specs.Net.{NetModel}
-use Rattle.net_agenda.specs.declared.agenda.Agenda.{Agenda}
-use Rattle.net_agenda.specs.Buckets.{HoldsItems}
-use Rattle.window_laws.specs.Agenda.{Packet}
 use Rattle.copy_exchange.specs.Crossed.{is_own, IsExpected}
-use Rattle.worker_window.specs.declared.share.Share.{Share}
+use Rattle.mote_net.specs.Net.{NetModel}
+use Rattle.net_agenda.specs.Buckets.{HoldsItems}
+use Rattle.radio_packet.specs.declared.copy.RadioCopy.{RadioCopy}
+use Rattle.window_laws.specs.Agenda.{Packet}
 use Rattle.worker_window.specs.Share.{Motes, IsWholeShare}
+use Rattle.worker_window.specs.declared.share.Share.{Share}
+use Rattle.net_agenda.specs.declared.agenda.Agenda.{Agenda}
 use Rattle.worker_window.proofs.Items.{all_wakes}
 use Rattle.worker_window.proofs.Parts.{items, wakes_now, known_now}
 

@@ -1,12 +1,12 @@
 -- The traces that a share returns at the end.
 use Rattle.std.proofs.Common.{◌≡◌, ℕ, zero, suc, ◌<◌, List, [], ◌∷◌, Vec, Global, length, map, get_or, Option, Some, None, refl, arith}
 use Rattle.std.specs.Prelude.{IsSomeAnd}
-use Rattle.program_tree.specs.Code.{Tree}
 use Rattle.mote_node.specs.Turn.{Node}
-use Rattle.window_laws.specs.Windows.{LoneMote}
+use Rattle.program_tree.specs.Code.{Tree}
 use Rattle.trace_lines.specs.declared.line.Line.{Line}
-use Rattle.worker_window.specs.declared.own.OwnWindow.{OwnWindow}
+use Rattle.window_laws.specs.Windows.{LoneMote}
 use Rattle.worker_window.specs.Share.{IsBetweenWindows, mote_here, trace_in}
+use Rattle.worker_window.specs.declared.own.OwnWindow.{OwnWindow}
 
 abbrev pub lines_in : Vec Line Global → List Line
 lines_in trace = trace.items

@@ -1,21 +1,21 @@
 -- The possible results of a worker, before and after polls.
 use Rattle.std.proofs.Common.{◌≡◌, ◌∙◌, ℕ, ◌<◌, true, unwrap_or, List, [], ◌∷◌, ◌++◌, Vec, Result, Ok, Err, length, get_or, set, Option, Some, None, refl, ap, sym, subst, inl, inr, option_map, slice_get}
 use Rattle.std.proofs.lemmas.Bool.{cases_eq, false≢true}
+use Rattle.std.proofs.lemmas.List.{length-set}
 use Rattle.std.specs.List.{AllByRecursion}
+use Rattle.mote_net.specs.Net.{MoteSetup, NetModel}
+use Rattle.mote_node.specs.declared.mote.MoteError.{MoteError}
+use Rattle.net_agenda.specs.NetSystem.{no_mote, tree_at}
+use Rattle.program_tree.specs.Code.{Tree}
 use Rattle.window_laws.proofs.Lists.{every_append, every_weaker}
 use Rattle.worker_window.specs.Events.{is_one_of}
-use Rattle.std.proofs.lemmas.List.{length-set}
-use Rattle.std.specs.declared.alloc.Global.{Global}
-use Rattle.program_tree.specs.Code.{Tree}
-use Rattle.mote_node.specs.declared.mote.MoteError.{MoteError}
-use Rattle.mote_net.specs.Net.{MoteSetup, NetModel}
-use Rattle.net_agenda.specs.NetSystem.{no_mote, tree_at}
-use Rattle.worker_window.specs.declared.own.OwnWindow.{OwnWindow}
 use Rattle.worker_window.specs.Out.{out_of}
 use Rattle.worker_window.specs.Own.{window_in, IsFinished}
 use Rattle.worker_window.specs.Share.{mote_here}
 use Rattle.worker_window.specs.Turns.{CanGoOn, IsFirstTurn, MayGive}
 use Rattle.worker_window.specs.Worker.{CanAllGoOn, CanMoteGoOn, MayEnd, MayEndAs, WorkerMayAnswer}
+use Rattle.worker_window.specs.declared.own.OwnWindow.{OwnWindow}
+use Rattle.std.specs.declared.alloc.Global.{Global}
 use Rattle.worker_window.proofs.Polls.{before_turn, goes_on, own_gives}
 use Rattle.worker_window.proofs.Numbers.{among_all}
 use Rattle.worker_window.proofs.Places.{at_place, put_else, put_here}

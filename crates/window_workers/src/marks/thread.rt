@@ -5,18 +5,16 @@ ghost use Rattle.fork_join.specs.declared.work.WorkerError.TheVariants.{Stopped,
 ghost use Rattle.mote_net.specs.Meaning.{net_of};
 ghost use Rattle.net_agenda.specs.NetSystem.{system_of};
 ghost use Rattle.copy_exchange.specs.Endpoints.{HasMarks, IsOnInboxes};
-ghost use Rattle.copy_exchange.specs.Expected.{TakesUnexpected, position};
 ghost use Rattle.copy_exchange.specs.Marks.{AreTakersCounts};
 ghost use Rattle.worker_window.specs.Window.{CanRun};
 ghost use Rattle.window_workers.specs.WorkerGroup.{IsCut};
 ghost use Rattle.window_workers.specs.MarkedBounds.{bound, windows_of};
-ghost use Rattle.window_workers.specs.MarkedRefusals.{refused_of_marks};
 ghost use Rattle.window_workers.specs.MarkedThread.{IsBeforeFirstWindow, LeadsOn, WorkerRunsAllWindows, SendsWindow, TakesWindow};
 ghost use Rattle.window_workers.specs.declared.worker.Worker.{Worker as WorkerOfCode};
 
 use crate::windows::window_end;
 use crate::worker::Worker;
-use copy_exchange::{MarkError, MarkTaker, WindowPosition};
+use copy_exchange::{MarkTaker, WindowPosition};
 use copy_inbox::Inbox;
 use fork_join::{Watch, Work, WorkerError};
 use mote_net::Net;
@@ -52,18 +50,6 @@ impl<R, G> Drop for MarkRunner<'_, R, G> {
             gate: _,
             run: _,
         } = self;
-    }
-}
-
-/// Returns the reason why a worker gave up, if it stopped taking items. A copy that isn't expected arrives only if
-/// another worker has broken the protocol, which no worker does; such a copy counts as an error of the thread's work.
-fn gave_up(error: MarkError) -> WorkerError
-    ensures value { result ≡ refused_of_marks error }
-{
-    match error {
-        MarkError::Memory => WorkerError::Memory,
-        MarkError::Stopped => WorkerError::Stopped,
-        MarkError::Unexpected => WorkerError::Thread,
     }
 }
 
@@ -104,8 +90,8 @@ impl<R: Wait + RandomSource + AllocGlobal, G: Gate> MarkRunner<'_, R, G> {
         Ok(())
     }
 
-    /// Takes items until the window's mark has arrived from each other worker, and adds the copies among the items to
-    /// the share.
+    /// Takes items until the window's mark has arrived from each other worker, and adds the expected copies among the
+    /// items to the share.
     fn take_window<L: Ledger>(
         &self,
         watch: &mut Watch<'_, L>,
@@ -119,10 +105,7 @@ impl<R: Wait + RandomSource + AllocGlobal, G: Gate> MarkRunner<'_, R, G> {
         ensures takes { OnOk result
             (TakesWindow self.now.run.owners.now window until worker.old worker.new marks.new.counts.items) }
         ensures seen { IfErr result (λ reason. reason ≡ Stopped → watch.new.seen ≡ true) }
-        ensures unexpected { IfErr result
-            (λ reason. reason ≡ Thread
-            → TakesUnexpected (position self.now.run.owners.now worker.old.endpoint.worker until)
-            worker.old.endpoint.taker worker.new.endpoint.taker) }
+        ensures refused { IfErr result (λ reason. reason ≢ Thread) }
     {
         let number = worker.endpoint.worker;
         let inbox = &self.run.inboxes[usize::from(number)];
@@ -131,7 +114,7 @@ impl<R: Wait + RandomSource + AllocGlobal, G: Gate> MarkRunner<'_, R, G> {
             owners: self.run.owners,
             from: until,
         };
-        let took = marks.take_window(
+        let arrived = marks.take_window(
             self.rt,
             self.rt.alloc(),
             inbox,
@@ -139,11 +122,7 @@ impl<R: Wait + RandomSource + AllocGlobal, G: Gate> MarkRunner<'_, R, G> {
             watch,
             &window_position,
             window,
-        );
-        let arrived = match took {
-            Ok(arrived) => arrived,
-            Err(error) => return Err(gave_up(error)),
-        };
+        )?;
         worker.share.take_in(&arrived)?;
         Ok(())
     }
@@ -180,8 +159,8 @@ impl<R: Wait + RandomSource + AllocGlobal, G: Gate> MarkRunner<'_, R, G> {
     /// Runs a worker through all windows, to the end of the net. This is the whole work of its thread.
     ///
     /// # Errors
-    /// `Memory` if an allocation fails; `Thread` if the executor returned an error, or if a copy wasn't expected;
-    /// `Stopped` if the worker stopped because another worker failed.
+    /// `Memory` if an allocation fails; `Thread` if the executor returned an error; `Stopped` if the worker stopped
+    /// because another worker failed.
     fn run_worker<L: Ledger>(
         &self,
         watch: &mut Watch<'_, L>,

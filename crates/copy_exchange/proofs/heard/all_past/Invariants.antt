@@ -1,4 +1,4 @@
-use Rattle.copy_exchange.proofs.Common.{ℕ, ◌<◌, slice_index_or}
+use Rattle.std.proofs.Common.{ℕ, ◌<◌, slice_index_or}
 use Rattle.copy_exchange.proofs.heard.all_past.Given as goal
 
 abbrev pub invariant-loop-sender : goal.invariant-loop-sender

@@ -1,4 +1,5 @@
-use Rattle.copy_exchange.proofs.Common.{◌≡◌, ◌≤◌, length, vec_capacity, AreNone}
+use Rattle.std.proofs.Common.{◌≡◌, ◌≤◌, length, vec_capacity}
+use Rattle.copy_exchange.specs.Marks.{AreNone}
 use Rattle.copy_exchange.proofs.heard.no_marks.Given as goal
 
 abbrev pub invariant-loop : goal.invariant-loop

@@ -1,4 +1,5 @@
-use Rattle.copy_exchange.proofs.Common.{◌+◌, length, ap, sym, ◌∙◌, copies_of}
+use Rattle.std.proofs.Common.{◌+◌, length, ap, sym, ◌∙◌}
+use Rattle.copy_inbox.specs.Items.{copies_of}
 use Rattle.copy_exchange.proofs.Counted.{gathered_length}
 use Rattle.copy_exchange.proofs.inboxes.known.Goals as goal
 

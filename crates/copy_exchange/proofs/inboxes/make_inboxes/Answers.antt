@@ -1,4 +1,7 @@
-use Rattle.copy_exchange.proofs.Common.{◌≡◌, ◌+◌, length, sym, ap, ◌∙◌, subst, arith, length-append, List, Each, InboxId, TakerView, IsFresh}
+use Rattle.std.proofs.Common.{◌≡◌, ◌+◌, length, sym, ap, ◌∙◌, subst, arith, length-append, List}
+use Rattle.std.specs.List.{AllByRecursion as Each}
+use Rattle.copy_exchange.specs.Inboxes.{IsFresh}
+use Rattle.copy_inbox.specs.Handles.{InboxId, TakerView}
 use Rattle.copy_exchange.proofs.Lists.{each_more}
 use Rattle.copy_exchange.proofs.inboxes.make_inboxes.Goals as goal
 

@@ -1,4 +1,7 @@
-use Rattle.copy_exchange.proofs.Common.{◌≡◌, ◌≤◌, length, vec_capacity, Each, InboxId, TakerView, IsFresh}
+use Rattle.std.proofs.Common.{◌≡◌, ◌≤◌, length, vec_capacity}
+use Rattle.std.specs.List.{AllByRecursion as Each}
+use Rattle.copy_exchange.specs.Inboxes.{IsFresh}
+use Rattle.copy_inbox.specs.Handles.{InboxId, TakerView}
 use Rattle.copy_exchange.proofs.inboxes.make_inboxes.Given as goal
 
 abbrev pub invariant-loop : goal.invariant-loop

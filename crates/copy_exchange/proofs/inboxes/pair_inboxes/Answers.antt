@@ -1,4 +1,7 @@
-use Rattle.copy_exchange.proofs.Common.{rules, ◌≡◌, length, vec_len, sym, ap, ◌∙◌, map-id, YieldsList-from_zip, YieldsList-from_vec, YieldsList-end}
+use Rattle.std.proofs.Common.{rules, ◌≡◌, length, vec_len, sym, ap, ◌∙◌, map-id}
+use Rattle.std.proofs.lemmas.Iterator.{YieldsList-from_zip}
+use Rattle.std.proofs.lemmas.Iterator.Adapters.{YieldsList-from_vec}
+use Rattle.std.proofs.lemmas.Iterator.Consumers.{YieldsList-end}
 use Rattle.copy_exchange.proofs.inboxes.pair_inboxes.Goals as goal
 
 pub returns : goal.returns

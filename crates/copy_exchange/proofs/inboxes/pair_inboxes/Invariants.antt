@@ -1,4 +1,4 @@
-use Rattle.copy_exchange.proofs.Common.{◌≡◌}
+use Rattle.std.proofs.Common.{◌≡◌}
 use Rattle.copy_exchange.proofs.inboxes.pair_inboxes.Given as goal
 
 abbrev pub invariant-loop-pair : goal.invariant-loop-pair

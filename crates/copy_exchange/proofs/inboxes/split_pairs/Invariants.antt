@@ -1,4 +1,5 @@
-use Rattle.copy_exchange.proofs.Common.{◌≡◌, map, InboxId, TakerView}
+use Rattle.std.proofs.Common.{◌≡◌, map}
+use Rattle.copy_inbox.specs.Handles.{InboxId, TakerView}
 use Rattle.copy_exchange.proofs.inboxes.split_pairs.Given as goal
 
 abbrev pub invariant-loop-inbox : goal.invariant-loop-inbox

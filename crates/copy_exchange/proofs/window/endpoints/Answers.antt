@@ -1,5 +1,11 @@
-use Rattle.copy_exchange.proofs.Common.{rules, ◌≡◌, ◌+◌, ◌^◌, ◌<◌, true, List, [], ◌∷◌, ◌++◌, length, vec_len, sym, ap, ◌∙◌, subst, arith, length-append, map-id, Each, AllZip, zip, YieldsList-from_zip, YieldsList-from_vec, YieldsList-turn, YieldsList-end, TakerView, Endpoint, Together, StartsAs, HasMarks, HasPushedNothing}
-use Rattle.std.proofs.lemmas.Slice.Zip.{length-zip}
+use Rattle.std.proofs.Common.{[], rules, ◌≡◌, ◌+◌, true, List, ◌∷◌, ◌++◌, length, vec_len, sym, ap, ◌∙◌, subst, arith, length-append, map-id}
+use Rattle.std.proofs.lemmas.Iterator.{YieldsList-from_zip}
+use Rattle.std.proofs.lemmas.Iterator.Adapters.{YieldsList-from_vec}
+use Rattle.std.proofs.lemmas.Iterator.Consumers.{YieldsList-end}
+use Rattle.std.specs.List.{AllByRecursion as Each, AllZip, zip}
+use Rattle.copy_exchange.specs.Endpoints.{Together, StartsAs, HasMarks, HasPushedNothing}
+use Rattle.copy_exchange.specs.declared.endpoint.Endpoint.{Endpoint}
+use Rattle.copy_inbox.specs.Handles.{TakerView}
 use Rattle.copy_exchange.proofs.AfterWindow.{Row}
 use Rattle.copy_exchange.proofs.Starts.{opens_no_rows, opens_more_rows, built, built_more, together, starts, pushed_nothing, has_marks}
 use Rattle.copy_exchange.proofs.window.endpoints.Goals as goal

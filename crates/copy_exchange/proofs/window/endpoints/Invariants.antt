@@ -1,4 +1,4 @@
-use Rattle.copy_exchange.proofs.Common.{◌≡◌, ◌≤◌, length, vec_len, vec_capacity}
+use Rattle.std.proofs.Common.{◌≡◌, ◌≤◌, length, vec_len, vec_capacity}
 use Rattle.copy_exchange.proofs.Starts.{OpensRows, built}
 use Rattle.copy_exchange.proofs.window.endpoints.Given as goal
 

@@ -1,4 +1,9 @@
-use Rattle.copy_exchange.proofs.Common.{rules, ◌≡◌, ℕ, ◌+◌, [], ◌∷◌, ◌++◌, length, get_or, drop, vec_len, sym, ap, ◌∙◌, arith, length-append, YieldsList-from_vec, YieldsList-from_enumerate, YieldsList-end, length-enumerate_from, TakerView, at_place}
+use Rattle.std.proofs.Common.{[], rules, ◌≡◌, ℕ, ◌+◌, ◌∷◌, ◌++◌, length, get_or, drop, vec_len, sym, ap, ◌∙◌, arith, length-append}
+use Rattle.std.proofs.lemmas.Iterator.Adapters.{YieldsList-from_vec}
+use Rattle.std.proofs.lemmas.Iterator.Consumers.{YieldsList-from_enumerate, YieldsList-end}
+use Rattle.std.proofs.lemmas.List.FromFn.{length-enumerate_from}
+use Rattle.copy_exchange.specs.Steps.{at_place}
+use Rattle.copy_inbox.specs.Handles.{TakerView}
 use Rattle.copy_exchange.proofs.Rows.{gathers_none, gathers_next, gathers_row, still_takers, sender_fits, next_is}
 use Rattle.copy_exchange.proofs.window.gather_all.Goals as goal
 

@@ -1,4 +1,4 @@
-use Rattle.copy_exchange.proofs.Common.{◌≡◌, length, drop}
+use Rattle.std.proofs.Common.{◌≡◌, length, drop}
 use Rattle.copy_exchange.proofs.Rows.{GathersTo}
 use Rattle.copy_exchange.proofs.window.gather_all.Given as goal
 

@@ -1,4 +1,9 @@
-use Rattle.copy_exchange.proofs.Common.{rules, ◌≡◌, List, length, map, vec_len, sym, ◌∙◌, subst, map-id, YieldsList-from_vec, YieldsList-turn, YieldsList-end, TakerView, Endpoint, AreTakersOf}
+use Rattle.std.proofs.Common.{rules, ◌≡◌, List, length, map, vec_len, sym, ◌∙◌, subst, map-id}
+use Rattle.std.proofs.lemmas.Iterator.Adapters.{YieldsList-from_vec}
+use Rattle.std.proofs.lemmas.Iterator.Consumers.{YieldsList-turn, YieldsList-end}
+use Rattle.copy_exchange.specs.Steps.{AreTakersOf}
+use Rattle.copy_exchange.specs.declared.endpoint.Endpoint.{Endpoint}
+use Rattle.copy_inbox.specs.Handles.{TakerView}
 use Rattle.copy_exchange.proofs.Back.{start_takers, row_fits, gathers_back}
 use Rattle.copy_exchange.proofs.AfterWindow.{Row, GathersRows, no_rows, more_rows, takers_after}
 use Rattle.copy_exchange.proofs.window.gather_back.Goals as goal

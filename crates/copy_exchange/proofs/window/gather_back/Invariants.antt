@@ -1,4 +1,4 @@
-use Rattle.copy_exchange.proofs.Common.{AreTakersOf}
+use Rattle.copy_exchange.specs.Steps.{AreTakersOf}
 use Rattle.copy_exchange.proofs.AfterWindow.{GathersRows}
 use Rattle.copy_exchange.proofs.window.gather_back.Given as goal
 

@@ -1,4 +1,11 @@
-use Rattle.copy_exchange.proofs.Common.{Vec, Each, AllZip, Global, IfOk-weaker, TakerView, GathersDelivered, HasNoMarks, Settled, GathersBack}
+use Rattle.std.proofs.Common.{Vec}
+use Rattle.std.proofs.lemmas.Result.{IfOk-weaker}
+use Rattle.std.specs.List.{AllByRecursion as Each, AllZip}
+use Rattle.std.specs.declared.alloc.Global.{Global}
+use Rattle.copy_exchange.specs.Endpoints.{GathersDelivered}
+use Rattle.copy_exchange.specs.Inboxes.{HasNoMarks, Settled}
+use Rattle.copy_exchange.specs.Steps.{GathersBack}
+use Rattle.copy_inbox.specs.Handles.{TakerView}
 use Rattle.copy_exchange.proofs.AfterWindow.{workers, all_on_inboxes, settled, plain_after, gathers_delivered}
 use Rattle.copy_exchange.proofs.window.gather_window.Goals as goal
 

@@ -1,4 +1,4 @@
-use Rattle.copy_exchange.proofs.Common.{◌≡◌, ◌≤◌, length, vec_len, vec_capacity}
+use Rattle.std.proofs.Common.{◌≡◌, ◌≤◌, length, vec_len, vec_capacity}
 use Rattle.copy_exchange.proofs.Rows.{OpensTo}
 use Rattle.copy_exchange.proofs.window.senders_of.Given as goal
 

@@ -1,4 +1,5 @@
-use Rattle.copy_exchange.proofs.Common.{◌≡◌, map, Endpoint}
+use Rattle.std.proofs.Common.{◌≡◌, map}
+use Rattle.copy_exchange.specs.declared.endpoint.Endpoint.{Endpoint}
 use Rattle.copy_exchange.proofs.window.split_endpoints.Given as goal
 
 abbrev pub invariant-loop-endpoint : goal.invariant-loop-endpoint

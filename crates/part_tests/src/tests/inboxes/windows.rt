@@ -96,7 +96,7 @@ fn push_marks<R: Wait>(rt: &R, inbox: &Inbox, sender: &mut Sender, windows: u64)
 
 /// Worker 0 pushes windows 0 and 1, and worker 1 pushes window 0. So taking window 0 returns the copies that worker 0
 /// sent in both windows. Then worker 1 pushes its next mark, so taking window 1 returns no copies. Last, worker 0
-/// pushes a copy of window 2 that arrives before the window begins.
+/// pushes a copy of window 2 that arrives before the window begins, so it isn't among those of window 2.
 fn push_three_windows<R: Wait>(rt: &R, inbox: &Inbox, first: &mut Sender, second: &mut Sender)
     requires first { (first.old.inbox ≡ inbox.now) × (first.old.state.marked ≡ true) }
     requires second { (second.old.inbox ≡ inbox.now) × (second.old.state.marked ≡ true) }
@@ -107,6 +107,7 @@ fn push_three_windows<R: Wait>(rt: &R, inbox: &Inbox, first: &mut Sender, second
     push_mark(rt, inbox, second, 0);
     push_mark(rt, inbox, second, 1);
     push_window(rt, inbox, first, copy(9, 2), 2);
+    push_mark(rt, inbox, second, 2);
 }
 
 /// Worker 0 pushes the marks of the windows up to 1002, and worker 1 those of the windows up to 1001.
@@ -162,7 +163,7 @@ fn windows_by_hand(rt: HostRuntime) -> Result<(), Fail> {
     }
     same_text(
         text.as_str(),
-        "Err(Thread) 5 2 0 0 9|9 2 0 1 9|marks|marks|Unexpected|Err(Thread) Stopped|Err(Thread) Stopped|\
+        "Err(Thread) 5 2 0 0 9|9 2 0 1 9|marks|marks|marks|Err(Thread) Stopped|Err(Thread) Stopped|\
          Err(Thread) marks|marks|Stopped|",
     )
 }

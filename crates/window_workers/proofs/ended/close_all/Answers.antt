@@ -1,8 +1,8 @@
 use Rattle.std.proofs.Common.{rules, ◌≡◌, length, vec_len, sym, ◌∙◌, subst, inr}
 use Rattle.std.proofs.lemmas.Iterator.Adapters.{YieldsList-from_vec}
 use Rattle.std.proofs.lemmas.Iterator.Consumers.{YieldsList-turn}
-use Rattle.fork_join.proofs.Zips.{each_at}
 use Rattle.copy_exchange.specs.Inboxes.{IsSettled}
+use Rattle.fork_join.proofs.Zips.{each_at}
 use Rattle.window_workers.specs.Crossed.{Pair}
 use Rattle.window_workers.proofs.ended.close_all.Goals as goal
 use Rattle.window_workers.proofs.ended.close_all.Goals.{In-Some}

@@ -1,10 +1,10 @@
 use Rattle.std.proofs.Common.{◌≡◌, ◌∙◌, ap, arith, length, length-append, []}
 use Rattle.mote_net.specs.Meaning.{net_of}
-use Rattle.window_laws.specs.Windows.{first_mote}
-use Rattle.net_agenda.specs.NetSystem.{system_of}
 use Rattle.net_agenda.proofs.Boots.{pushed}
-use Rattle.worker_window.specs.declared.share.Share.{Share}
+use Rattle.net_agenda.specs.NetSystem.{system_of}
+use Rattle.window_laws.specs.Windows.{first_mote}
 use Rattle.worker_window.specs.Share.{IsWholeShare}
+use Rattle.worker_window.specs.declared.share.Share.{Share}
 use Rattle.window_workers.proofs.group.first_shares.Goals as goal
 
 pub loop-worker-preserved : goal.loop-worker-preserved

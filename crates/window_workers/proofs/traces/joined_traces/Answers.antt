@@ -1,8 +1,8 @@
 use Rattle.std.proofs.Common.{◌≡◌, ◌∙◌, ap, arith, length, length-append, slice_index, Vec}
-use Rattle.std.specs.declared.alloc.Global.{Global}
 use Rattle.std.proofs.lemmas.List.{get_or_default}
-use Rattle.trace_lines.specs.declared.line.Line.{Line}
+use Rattle.std.specs.declared.alloc.Global.{Global}
 use Rattle.net_agenda.proofs.Boots.{pushed}
+use Rattle.trace_lines.specs.declared.line.Line.{Line}
 use Rattle.window_workers.specs.Over.{reported_trace}
 use Rattle.window_workers.proofs.traces.joined_traces.Goals as goal
 

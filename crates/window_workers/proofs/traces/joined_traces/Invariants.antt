@@ -1,8 +1,8 @@
 use Rattle.std.proofs.Common.{◌≡◌, ℕ, ◌<◌, ◌≤◌, length, slice_index, slice_index_or, Vec}
 use Rattle.std.specs.declared.alloc.Global.{Global}
 use Rattle.trace_lines.specs.declared.line.Line.{Line}
-use Rattle.worker_window.specs.declared.share.EndedShare.{EndedShare}
 use Rattle.window_workers.specs.Over.{reported_trace}
+use Rattle.worker_window.specs.declared.share.EndedShare.{EndedShare}
 use Rattle.window_workers.proofs.traces.joined_traces.Given as goal
 
 abbrev pub invariant-loop-mote : goal.invariant-loop-mote

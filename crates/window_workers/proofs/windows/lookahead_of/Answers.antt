@@ -1,8 +1,8 @@
 use Rattle.std.proofs.Common.{◌∙◌, length, ap, sym}
-use Rattle.radio_medium.specs.Medium.{Radio, lookahead, medium_fault}
 use Rattle.mote_net.specs.Meaning.{net_of}
-use Rattle.net_agenda.specs.NetSystem.{system_of}
 use Rattle.net_agenda.proofs.Systems.{system_is}
+use Rattle.net_agenda.specs.NetSystem.{system_of}
+use Rattle.radio_medium.specs.Medium.{Radio, lookahead, medium_fault}
 use Rattle.window_workers.proofs.windows.lookahead_of.Goals as goal
 
 pub returns-clause-value : goal.returns-clause-value

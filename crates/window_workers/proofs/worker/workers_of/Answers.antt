@@ -1,8 +1,8 @@
 use Rattle.std.proofs.Common.{rules, ◌≡◌, length, map, vec_len, sym, ap, ◌∙◌, map-id}
-use Rattle.std.proofs.lemmas.Iterator.{YieldsList-from_zip}
 use Rattle.std.proofs.lemmas.Iterator.Adapters.{YieldsList-from_vec}
 use Rattle.std.proofs.lemmas.Iterator.Consumers.{YieldsList-end}
 use Rattle.window_workers.specs.Worker.{make_worker}
+use Rattle.std.proofs.lemmas.Iterator.{YieldsList-from_zip}
 use Rattle.window_workers.proofs.worker.workers_of.Goals as goal
 
 pub returns-clause-workers : goal.returns-clause-workers

@@ -1,12 +1,12 @@
 use Rattle.std.proofs.Common.{◌≡◌, ◌+◌, ◌<◌, length, map, None, sym, ap, ◌∙◌, subst}
 use Rattle.std.specs.List.{sum_by, AllByRecursion as Each}
-use Rattle.net_agenda.proofs.Systems.{system_is}
-use Rattle.copy_exchange.specs.Takers.{taken_by, gathered_by}
 use Rattle.copy_exchange.specs.Inboxes.{IsSettled}
-use Rattle.worker_window.specs.declared.share.EndedShare.{EndedShare}
-use Rattle.mote_net.specs.declared.report.Report.{Report}
+use Rattle.copy_exchange.specs.Takers.{taken_by, gathered_by}
 use Rattle.mote_net.specs.Report.{report_of}
+use Rattle.mote_net.specs.declared.report.Report.{Report}
+use Rattle.net_agenda.proofs.Systems.{system_is}
 use Rattle.window_workers.specs.Crossed.{Pair, AllCrossed}
+use Rattle.worker_window.specs.declared.share.EndedShare.{EndedShare}
 use Rattle.window_workers.proofs.ByWorkers.{reported_equals, all_crossed}
 use Rattle.window_workers.proofs.AllTraces.{all_fates, all_places, workers_there}
 use Rattle.window_workers.proofs.Logs.{as_many, places_kept, traces_kept}

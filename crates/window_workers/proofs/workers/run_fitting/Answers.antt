@@ -1,24 +1,24 @@
 use Rattle.std.proofs.Common.{rules, ◌≡◌, ◌≤◌, ℕ, List, length, map, vec_len, Vec, None, sym, ap, ◌∙◌, subst}
+use Rattle.std.proofs.lemmas.List.{length-map}
+use Rattle.std.specs.List.{AllZip, zip, AllByRecursion as Each}
 use Rattle.std.specs.Prelude.{All, IfOk}
 use Rattle.std.specs.declared.alloc.Global.{Global}
-use Rattle.std.specs.List.{AllZip, zip, AllByRecursion as Each}
-use Rattle.std.proofs.lemmas.List.{length-map}
-use Rattle.trace_lines.specs.declared.line.Line.{Line}
+use Rattle.copy_exchange.specs.Inboxes.{IsFresh, IsSettled}
+use Rattle.copy_inbox.specs.Gathered.{known_of}
+use Rattle.copy_inbox.specs.Handles.{InboxId, TakerView}
 use Rattle.kernel_laws.specs.Going.{IsInOrder}
 use Rattle.mote_net.specs.Meaning.{net_of}
 use Rattle.mote_net.specs.Net.{NetModel}
-use Rattle.copy_inbox.specs.Gathered.{known_of}
-use Rattle.copy_inbox.specs.Handles.{InboxId, TakerView}
-use Rattle.copy_exchange.specs.Inboxes.{IsFresh, IsSettled}
-use Rattle.window_workers.specs.Start.{AreFirst}
-use Rattle.window_workers.specs.WorkerGroup.{IsCut}
-use Rattle.mote_net.specs.declared.report.Report.{Report}
 use Rattle.mote_net.specs.Report.{report_of}
+use Rattle.mote_net.specs.declared.report.Report.{Report}
+use Rattle.serial_run.specs.NetRun.{IsReportOf}
+use Rattle.trace_lines.specs.declared.line.Line.{Line}
 use Rattle.window_workers.specs.Crossed.{Pair, AllCrossed}
 use Rattle.window_workers.specs.Fits.{cut_fault}
 use Rattle.window_workers.specs.Over.{AreAtEnd}
-use Rattle.serial_run.specs.NetRun.{IsReportOf}
+use Rattle.window_workers.specs.Start.{AreFirst}
 use Rattle.window_workers.specs.Sync.{IsForKind}
+use Rattle.window_workers.specs.WorkerGroup.{IsCut}
 use Rattle.window_workers.specs.declared.sync.SyncKind.TheVariants.{Marks}
 use Rattle.window_workers.proofs.ByWorkers.{one_trace_each, all_hand_on}
 use Rattle.window_workers.proofs.Fitting.{fits_is}

@@ -1,7 +1,7 @@
 use Rattle.std.proofs.Common.{◌≡◌, ℕ, true, false, List, length}
-use Rattle.window_laws.specs.Agenda.{Item}
-use Rattle.net_agenda.specs.Buckets.{HoldsItems, first_key}
 use Rattle.net_agenda.proofs.Ranks.{turns_left}
+use Rattle.net_agenda.specs.Buckets.{HoldsItems, first_key}
+use Rattle.window_laws.specs.Agenda.{Item}
 use Rattle.worker_window.specs.Events.{IsSameMote, are_different, copies_at, is_called, is_one_of}
 use Rattle.worker_window.specs.Share.{mote_here}
 use Rattle.worker_window.proofs.TakesEvents.{Part}

@@ -1,8 +1,8 @@
 use Rattle.std.proofs.Common.{◌∙◌, ◌++◌, ◌∷◌, [], ap, map, subst, sym, take}
 use Rattle.std.proofs.lemmas.Bool.{eq-eqb, ne_eqb}
 use Rattle.std.proofs.lemmas.List.{map-append, take_all, take_more}
-use Rattle.window_laws.specs.Windows.{is_at}
 use Rattle.net_agenda.specs.Buckets.{arrival_of}
+use Rattle.window_laws.specs.Windows.{is_at}
 use Rattle.worker_window.proofs.Fronts.{Pass, pass_more, front_at, front_all}
 use Rattle.worker_window.proofs.own.take_arrivals.Goals as goal
 

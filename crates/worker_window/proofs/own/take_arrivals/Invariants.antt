@@ -1,6 +1,6 @@
 use Rattle.std.proofs.Common.{◌≡◌, map, take}
-use Rattle.window_laws.specs.Windows.{is_at}
 use Rattle.net_agenda.specs.Buckets.{arrival_of}
+use Rattle.window_laws.specs.Windows.{is_at}
 use Rattle.worker_window.proofs.Fronts.{Pass}
 use Rattle.worker_window.proofs.own.take_arrivals.Given as goal
 

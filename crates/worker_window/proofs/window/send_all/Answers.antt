@@ -1,15 +1,15 @@
 use Rattle.std.proofs.Common.{◌≡◌, ◌∙◌, ◌++◌, ◌∷◌, [], ap, get_or, map, subst, sym, take}
-use Rattle.std.specs.List.{filter, filter_map, flat_map}
 use Rattle.std.proofs.lemmas.List.{map-append, take_all}
+use Rattle.std.specs.List.{filter, filter_map, flat_map}
+use Rattle.copy_exchange.specs.Crossed.{is_own, is_for_others}
+use Rattle.net_agenda.specs.Buckets.{HoldsItems}
+use Rattle.radio_medium.specs.Medium.{copies, copy_of}
 use Rattle.radio_packet.specs.declared.copy.RadioCopy.{RadioCopy}
 use Rattle.radio_packet.specs.declared.sent.Sent.{Sent}
-use Rattle.radio_medium.specs.Medium.{copies, copy_of}
-use Rattle.window_laws.specs.Agenda.{Packet}
 use Rattle.window_laws.proofs.Lists.{every_append}
-use Rattle.net_agenda.specs.Buckets.{HoldsItems}
-use Rattle.mote_net.specs.declared.report.LogLine.{LogLine}
-use Rattle.copy_exchange.specs.Crossed.{is_own, is_for_others}
+use Rattle.window_laws.specs.Agenda.{Packet}
 use Rattle.worker_window.specs.Log.{HaveFates, packets_in}
+use Rattle.mote_net.specs.declared.report.LogLine.{LogLine}
 use Rattle.worker_window.proofs.Sends.{more_sends, more_sent_own, more_sent_away}
 use Rattle.worker_window.proofs.window.send_all.Goals as goal
 

@@ -1,9 +1,9 @@
 use Rattle.std.proofs.Common.{◌≡◌, ◌++◌, map, take}
 use Rattle.std.specs.List.{filter, flat_map}
+use Rattle.copy_exchange.specs.Crossed.{is_own, is_for_others}
+use Rattle.net_agenda.specs.Changes.{AddsItems}
 use Rattle.radio_medium.specs.Medium.{copies}
 use Rattle.window_laws.specs.Agenda.{Packet}
-use Rattle.net_agenda.specs.Changes.{AddsItems}
-use Rattle.copy_exchange.specs.Crossed.{is_own, is_for_others}
 use Rattle.worker_window.specs.Log.{HaveFates, packets_in}
 use Rattle.worker_window.proofs.window.send_all.Given as goal
 

@@ -1,13 +1,13 @@
 use Rattle.std.proofs.Common.{◌∙◌, ◌++◌, ◌∷◌, [], ap, append-nil, get_or, map, subst, sym, take, None}
-use Rattle.std.specs.Result.{OnOk}
 use Rattle.std.proofs.lemmas.List.{take_all}
-use Rattle.radio_packet.specs.declared.copy.RadioCopy.{RadioCopy}
-use Rattle.radio_packet.specs.declared.fate.Fate.{Fate}
-use Rattle.radio_medium.specs.Medium.{copy_of}
-use Rattle.window_laws.specs.Agenda.{Packet}
+use Rattle.std.specs.Result.{OnOk}
+use Rattle.copy_exchange.specs.Crossed.{is_own, is_for_others}
 use Rattle.net_agenda.specs.Buckets.{HoldsItems}
 use Rattle.net_agenda.specs.Changes.{AddsItems}
-use Rattle.copy_exchange.specs.Crossed.{is_own, is_for_others}
+use Rattle.radio_medium.specs.Medium.{copy_of}
+use Rattle.radio_packet.specs.declared.copy.RadioCopy.{RadioCopy}
+use Rattle.radio_packet.specs.declared.fate.Fate.{Fate}
+use Rattle.window_laws.specs.Agenda.{Packet}
 use Rattle.worker_window.specs.Sending.{outgoing_copies, own_items}
 use Rattle.worker_window.proofs.Sends.{more_own, more_away, all_own, none_away, on_ok}
 use Rattle.worker_window.proofs.window.send_fates.Goals as goal

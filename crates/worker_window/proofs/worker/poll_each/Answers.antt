@@ -1,14 +1,14 @@
 use Rattle.std.proofs.Common.{◌≡◌, ◌∙◌, ◌<◌, ◌++◌, ◌∷◌, [], ℕ, true, false, length, take, set, ap, arith, subst, sym, Option}
-use Rattle.std.specs.List.{AllByRecursion}
 use Rattle.std.proofs.lemmas.Bool.{false≢true}
 use Rattle.std.proofs.lemmas.List.{length-set, take_all, take_more}
+use Rattle.std.specs.List.{AllByRecursion}
 use Rattle.mote_net.specs.Meaning.{net_of}
 use Rattle.net_agenda.specs.NetSystem.{tree_at}
 use Rattle.program_tree.specs.Program.{tree_of}
-use Rattle.worker_window.specs.declared.own.OwnWindow.{OwnWindow}
 use Rattle.worker_window.specs.Events.{is_one_of}
 use Rattle.worker_window.specs.Share.{mote_here}
 use Rattle.worker_window.specs.Worker.{CanMoteGoOn, MayEnd}
+use Rattle.worker_window.specs.declared.own.OwnWindow.{OwnWindow}
 use Rattle.worker_window.proofs.Numbers.{among_all, read_among}
 use Rattle.worker_window.proofs.Workers.{all_over, ends_before, go_on_after, over_more, tree_is}
 use Rattle.worker_window.proofs.worker.poll_each.Goals.{then-left, else-left}

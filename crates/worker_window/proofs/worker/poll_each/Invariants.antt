@@ -1,11 +1,11 @@
 use Rattle.std.proofs.Common.{◌≡◌, false, List, Option, length, take}
 use Rattle.std.specs.List.{AllByRecursion}
-use Rattle.futures.specs.Task.{Keeps}
 use Rattle.mote_net.specs.Meaning.{net_of}
 use Rattle.net_agenda.specs.NetSystem.{tree_at}
-use Rattle.worker_window.specs.declared.own.OwnWindow.{OwnWindow}
 use Rattle.worker_window.specs.Share.{mote_here}
 use Rattle.worker_window.specs.Worker.{CanAllGoOn, MayEnd, MayEndAs}
+use Rattle.worker_window.specs.declared.own.OwnWindow.{OwnWindow}
+use Rattle.futures.specs.Task.{Keeps}
 use Rattle.worker_window.proofs.worker.poll_each.Given as goal
 
 abbrev pub invariant-loop-number : goal.invariant-loop-number

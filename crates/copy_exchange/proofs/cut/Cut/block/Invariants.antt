@@ -1,4 +1,5 @@
-use Rattle.copy_exchange.proofs.Common.{◌≡◌, up_to}
+use Rattle.std.proofs.Common.{◌≡◌}
+use Rattle.window_laws.specs.Agenda.{up_to}
 use Rattle.std.specs.Prelude.{map, ◌*◌, ◌/◌}
 use Rattle.copy_exchange.proofs.cut.Cut.block.Given as goal
 

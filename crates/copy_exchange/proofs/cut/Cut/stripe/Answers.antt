@@ -1,4 +1,5 @@
-use Rattle.copy_exchange.proofs.Common.{◌≡◌, ◌%◌, map, refl, ap, ◌∙◌, arith, up_to}
+use Rattle.std.proofs.Common.{◌≡◌, ◌%◌, map, refl, ap, ◌∙◌, arith}
+use Rattle.window_laws.specs.Agenda.{up_to}
 use Rattle.copy_exchange.proofs.Cuts.{one_more}
 use Rattle.copy_exchange.proofs.cut.Cut.stripe.Goals as goal
 

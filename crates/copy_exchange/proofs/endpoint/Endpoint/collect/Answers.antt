@@ -1,4 +1,4 @@
-use Rattle.copy_exchange.proofs.Common.{on_ok_weaker}
+use Rattle.std.proofs.lemmas.Result.{on_ok_weaker}
 use Rattle.copy_exchange.proofs.Collected.{endpoint_on, collects}
 use Rattle.copy_exchange.proofs.endpoint.Endpoint.collect.Goals as goal
 

@@ -1,4 +1,8 @@
-use Rattle.copy_exchange.proofs.Common.{ℕ, List, ◌≡◌, length, get_or, take, subst, sym, ap, ◌∙◌, arith, take-length, take_more, RadioCopy, Delivers, Leaves}
+use Rattle.std.proofs.Common.{ℕ, List, ◌≡◌, length, get_or, take, subst, sym, ap, ◌∙◌, arith}
+use Rattle.std.proofs.Math.Seq.{take-length}
+use Rattle.std.proofs.lemmas.List.{take_more}
+use Rattle.copy_exchange.specs.Endpoints.{Delivers, Leaves}
+use Rattle.radio_packet.specs.declared.copy.RadioCopy.{RadioCopy}
 use Rattle.copy_exchange.proofs.Delivered.{delivers_none, delivers_more}
 use Rattle.copy_exchange.proofs.Lists.{each_at}
 use Rattle.copy_exchange.proofs.endpoint.Endpoint.deliver.Goals as goal

@@ -1,4 +1,5 @@
-use Rattle.copy_exchange.proofs.Common.{take, IsOnInboxes, Delivers}
+use Rattle.std.proofs.Common.{take}
+use Rattle.copy_exchange.specs.Endpoints.{IsOnInboxes, Delivers}
 use Rattle.copy_exchange.proofs.endpoint.Endpoint.deliver.Given as goal
 
 abbrev pub invariant-loop-copy : goal.invariant-loop-copy

@@ -1,4 +1,7 @@
-use Rattle.copy_exchange.proofs.Common.{rules, ◌≡◌, get_or, Option, Some, subst, sym, ap, ◌∙◌, IsSomeAnd, Packet, SenderView, after_pushing}
+use Rattle.std.proofs.Common.{rules, ◌≡◌, get_or, Option, Some, subst, sym, ap, ◌∙◌}
+use Rattle.std.specs.Option.{IsSomeAnd}
+use Rattle.copy_inbox.specs.Handles.{SenderView, after_pushing}
+use Rattle.copy_inbox.specs.declared.items.Carried.TheVariants.{Packet}
 use Rattle.copy_exchange.proofs.Delivered.{to_is, to_inside, never_none, sender_there, endpoint_with, delivers_with}
 use Rattle.copy_exchange.proofs.endpoint.Endpoint.deliver_one.Goals as goal
 use Rattle.copy_exchange.proofs.endpoint.Endpoint.deliver_one.Goals.{In_ok-map_err}

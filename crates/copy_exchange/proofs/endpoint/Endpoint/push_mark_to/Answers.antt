@@ -1,4 +1,6 @@
-use Rattle.copy_exchange.proofs.Common.{rules, ◌≡◌, get_or, Some, sym, ap, ◌∙◌, Mark, after_pushing}
+use Rattle.std.proofs.Common.{rules, ◌≡◌, get_or, Some, sym, ap, ◌∙◌}
+use Rattle.copy_inbox.specs.Handles.{after_pushing}
+use Rattle.copy_inbox.specs.declared.items.Carried.TheVariants.{Mark}
 use Rattle.copy_exchange.proofs.Marked.{marks_with}
 use Rattle.copy_exchange.proofs.endpoint.Endpoint.push_mark_to.Goals as goal
 

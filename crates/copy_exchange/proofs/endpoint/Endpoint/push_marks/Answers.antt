@@ -1,4 +1,4 @@
-use Rattle.copy_exchange.proofs.Common.{arith}
+use Rattle.std.proofs.Common.{arith}
 use Rattle.copy_exchange.proofs.Marked.{on_inboxes_stays, marks_stay, marked_none, marked_more, marked_all, can_mark}
 use Rattle.copy_exchange.proofs.endpoint.Endpoint.push_marks.Goals as goal
 

@@ -1,4 +1,4 @@
-use Rattle.copy_exchange.proofs.Common.{IsOnInboxes, HasMarks}
+use Rattle.copy_exchange.specs.Endpoints.{IsOnInboxes, HasMarks}
 use Rattle.copy_exchange.proofs.Marked.{MarkedTo}
 use Rattle.copy_exchange.proofs.endpoint.Endpoint.push_marks.Given as goal
 

@@ -1,4 +1,5 @@
-use Rattle.copy_exchange.proofs.Common.{TakesExpected, position_of, AreTakersCounts}
+use Rattle.copy_exchange.specs.Expected.{TakesExpected, position_of}
+use Rattle.copy_exchange.specs.Marks.{AreTakersCounts}
 use Rattle.copy_exchange.proofs.take.MarkTaker.take_window.Given as goal
 
 abbrev pub invariant-loop : goal.invariant-loop

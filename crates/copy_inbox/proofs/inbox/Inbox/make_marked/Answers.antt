@@ -1,4 +1,5 @@
-use Rattle.copy_inbox.proofs.Common.{ap, ◌∙◌, taker_state_in}
+use Rattle.std.proofs.Common.{ap, ◌∙◌}
+use Rattle.copy_inbox.specs.Handles.{taker_state_in}
 use Rattle.copy_inbox.proofs.Moves.{forks_marks_as}
 use Rattle.copy_inbox.proofs.inbox.Inbox.make_marked.Goals as goal
 

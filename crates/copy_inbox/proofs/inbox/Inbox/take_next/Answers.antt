@@ -1,4 +1,7 @@
-use Rattle.copy_inbox.proofs.Common.{◌≡◌, ap, subst, TakerState, known_of, taker_state_in, MayBeTaken}
+use Rattle.std.proofs.Common.{◌≡◌, ap, subst}
+use Rattle.copy_inbox.specs.Gathered.{known_of}
+use Rattle.copy_inbox.specs.Handles.{taker_state_in, MayBeTaken}
+use Rattle.copy_inbox.specs.declared.rule.TakerState.{TakerState}
 use Rattle.copy_inbox.proofs.Moves.{takes_as, learns}
 use Rattle.copy_inbox.proofs.Kept.{next_made, next_few, next_down, keeps_taken}
 use Rattle.copy_inbox.proofs.Takers.{next_known, none_known}

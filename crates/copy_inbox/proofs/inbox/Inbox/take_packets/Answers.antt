@@ -1,4 +1,7 @@
-use Rattle.copy_inbox.proofs.Common.{◌≡◌, subst, arith, OfMade, TookFronts, TakerView}
+use Rattle.std.proofs.Common.{◌≡◌, subst, arith}
+use Rattle.copy_inbox.specs.Gathered.{TookFronts}
+use Rattle.copy_inbox.specs.Handles.{TakerView}
+use Rattle.copy_inbox.specs.Items.{OfMade}
 use Rattle.copy_inbox.proofs.Counts.{whole_of}
 use Rattle.copy_inbox.proofs.Drains.{drain_goes, known_to}
 use Rattle.copy_inbox.proofs.inbox.Inbox.take_packets.Goals as goal

@@ -1,4 +1,7 @@
-use Rattle.copy_inbox.proofs.Common.{ap, arith, subst, ◌∙◌, SenderState, HasPrefix, Packets, part, taker_state_in, sender_state_in}
+use Rattle.std.proofs.Common.{ap, arith, subst, ◌∙◌}
+use Rattle.copy_inbox.specs.Handles.{taker_state_in, sender_state_in}
+use Rattle.copy_inbox.specs.Items.{HasPrefix, Packets, part}
+use Rattle.copy_inbox.specs.declared.rule.SenderState.{SenderState}
 use Rattle.copy_inbox.proofs.Moves.{merges_as, learns}
 use Rattle.copy_inbox.proofs.Kept.{joined_first, joined_there, joined_at, keeps_joined, keeps_forgetting}
 use Rattle.copy_inbox.proofs.Takers.{joined_less, joined_fits, joined_begins, joined_packets}

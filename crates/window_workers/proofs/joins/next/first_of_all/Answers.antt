@@ -1,7 +1,7 @@
 use Rattle.std.proofs.Common.{subst, sym}
 use Rattle.window_laws.specs.Windows.{NoneBefore}
-use Rattle.window_workers.specs.WorkerGroup.{IsNotBefore}
 use Rattle.window_workers.specs.JoinedNext.{FirstOfAll}
+use Rattle.window_workers.specs.WorkerGroup.{IsNotBefore}
 use Rattle.window_workers.proofs.JoinedNexts.{first_of_next, taken_all}
 use Rattle.window_workers.proofs.joins.next.first_of_all.Goals as goal
 

@@ -1,10 +1,10 @@
 use Rattle.std.proofs.Common.{◌≡◌, ◌∙◌, ℕ, suc, ◌<◌, ◌≤◌, ap, sym, refl, subst, arith}
 use Rattle.mote_net.specs.Meaning.{net_of}
 use Rattle.net_agenda.specs.NetSystem.{system_of}
-use Rattle.window_workers.specs.declared.group.WorkerGroup.{WorkerGroup}
 use Rattle.window_workers.specs.JoinedLaws.{GroupRunsUntil}
 use Rattle.window_workers.specs.JoinedRun.{BeginsAt, GroupRunsNext}
 use Rattle.window_workers.specs.WindowLength.{end_of_window, length_of_window}
+use Rattle.window_workers.specs.declared.group.WorkerGroup.{WorkerGroup}
 use Rattle.window_workers.proofs.JoinedMoved.{moved}
 use Rattle.window_workers.proofs.JoinedRuns.{begins_later, short_enough, in_state_there}
 use Rattle.window_workers.proofs.joins.run.run_by_joins.Goals as goal

@@ -1,11 +1,11 @@
 use Rattle.std.proofs.Common.{ℕ, ◌≡◌, ◌+◌, ◌-◌, ◌≤◌}
-use Rattle.mote_net.specs.Meaning.{net_of}
 use Rattle.std.specs.List.{AllByRecursion as Each}
 use Rattle.copy_exchange.specs.Inboxes.{HasNoMarks}
+use Rattle.mote_net.specs.Meaning.{net_of}
 use Rattle.net_agenda.specs.NetSystem.{system_of}
-use Rattle.window_workers.specs.WorkerGroup.{WorkersAreAt}
 use Rattle.window_workers.specs.JoinedRun.{BeginsAt, GroupRunsWindows}
 use Rattle.window_workers.specs.WindowLength.{length_of_window}
+use Rattle.window_workers.specs.WorkerGroup.{WorkersAreAt}
 use Rattle.window_workers.proofs.joins.run.run_by_joins.Given as goal
 
 abbrev pub invariant-windows : goal.invariant-windows

@@ -1,6 +1,6 @@
-use mir.Syntax.{erased}
 use Rattle.std.proofs.Common.{refl}
 use Rattle.mote_net.specs.Meaning.{net_of}
+use mir.Syntax.{erased}
 use Rattle.window_workers.proofs.JoinedCrossing.{runner_sync}
 use Rattle.window_workers.proofs.JoinedReady.{ready}
 use Rattle.window_workers.proofs.JoinedReturned.{ran, returned}

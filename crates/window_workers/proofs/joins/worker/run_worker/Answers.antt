@@ -1,14 +1,14 @@
 use Rattle.std.proofs.Common.{◌≡◌, sym, ap, ◌∙◌, subst, true, length}
 use Rattle.std.specs.List.{AllByRecursion as Each}
-use Rattle.radio_packet.specs.declared.copy.RadioCopy.{RadioCopy}
-use Rattle.mote_net.specs.Meaning.{net_of}
-use Rattle.copy_exchange.specs.Takers.{taken_by, gathered_by}
 use Rattle.copy_exchange.proofs.Delivered.{endpoint_again}
 use Rattle.copy_exchange.specs.Crossed.{is_own}
+use Rattle.copy_exchange.specs.Takers.{taken_by, gathered_by}
+use Rattle.mote_net.specs.Meaning.{net_of}
+use Rattle.radio_packet.specs.declared.copy.RadioCopy.{RadioCopy}
+use Rattle.window_workers.specs.JoinedWorker.{IsFirstOf}
 use Rattle.worker_window.specs.Window.{RunsWindow, IsOutgoing}
 use Rattle.window_workers.proofs.Sent.{leaves_sent}
 use Rattle.window_workers.proofs.JoinedArrived.{arrived_have}
-use Rattle.window_workers.specs.JoinedWorker.{IsFirstOf}
 use Rattle.window_workers.proofs.joins.worker.run_worker.Goals as goal
 
 pub run_window-requires-clause-ready : goal.run_window-requires-clause-ready

@@ -1,19 +1,19 @@
-use mir.Syntax.{erased}
 use Rattle.std.proofs.Common.{◌≡◌, ◌<◌, ◌≤◌, suc, None, ap, ◌∙◌, subst, refl}
 use Rattle.std.specs.List.{AllByRecursion as Each}
+use Rattle.copy_inbox.specs.Gathered.{Whole}
+use Rattle.copy_inbox.specs.Handles.{TakerView}
 use Rattle.mote_net.specs.Meaning.{net_of}
 use Rattle.net_agenda.specs.NetSystem.{system_of}
 use Rattle.window_laws.proofs.Lists.{every_weaker}
-use Rattle.copy_inbox.specs.Gathered.{Whole}
-use Rattle.copy_inbox.specs.Handles.{TakerView}
-use Rattle.window_workers.specs.WindowLength.{length_of_window}
-use Rattle.window_workers.specs.WorkerGroup.{WorkersAreAt}
-use Rattle.window_workers.specs.declared.worker.Worker.{Worker}
-use Rattle.window_workers.specs.declared.group.WorkerGroup.{WorkerGroup}
-use Rattle.window_workers.proofs.Starts.{all_settled}
 use Rattle.window_workers.specs.MarkedBounds.{windows_of}
 use Rattle.window_workers.specs.MarkedRun.{GroupRunsMarked}
 use Rattle.window_workers.specs.MarkedThread.{IsBeforeFirstWindow}
+use Rattle.window_workers.specs.WindowLength.{length_of_window}
+use Rattle.window_workers.specs.WorkerGroup.{WorkersAreAt}
+use Rattle.window_workers.specs.declared.group.WorkerGroup.{WorkerGroup}
+use Rattle.window_workers.specs.declared.worker.Worker.{Worker}
+use mir.Syntax.{erased}
+use Rattle.window_workers.proofs.Starts.{all_settled}
 use Rattle.window_workers.proofs.MarkedCrossing.{runner_sync}
 use Rattle.window_workers.proofs.MarkedReady.{ready, together_first, none_gathered_first}
 use Rattle.window_workers.proofs.MarkedRuns.{all_back, all_on_inboxes, ended}

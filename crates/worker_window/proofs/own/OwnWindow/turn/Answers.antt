@@ -1,11 +1,11 @@
 use Rattle.std.proofs.Common.{rules, ◌≡◌, ◌+◌, drop, length, map, None, option_map, sym, ap, ◌∙◌}
-use Rattle.std.specs.List.{take_while}
 use Rattle.std.proofs.lemmas.List.{drop-drop}
-use Rattle.program_tree.specs.Program.{tree_of}
+use Rattle.std.specs.List.{take_while}
 use Rattle.mote_node.specs.Public.{node_in, turn_given, turn_out_of}
 use Rattle.mote_node.specs.Turn.{turn_of}
-use Rattle.window_laws.specs.Windows.{is_at}
 use Rattle.net_agenda.specs.Buckets.{arrival_of}
+use Rattle.program_tree.specs.Program.{tree_of}
+use Rattle.window_laws.specs.Windows.{is_at}
 use Rattle.worker_window.specs.Own.{window_in}
 use Rattle.worker_window.proofs.Orders.{is_rising-drop, rest_of}
 use Rattle.worker_window.proofs.Takes.{turns_to}

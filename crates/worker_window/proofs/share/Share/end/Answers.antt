@@ -1,6 +1,6 @@
 use Rattle.std.proofs.Common.{◌∙◌}
-use Rattle.window_laws.specs.Agenda.{packets}
 use Rattle.net_agenda.specs.NetSystem.{tree_at}
+use Rattle.window_laws.specs.Agenda.{packets}
 use Rattle.worker_window.specs.Share.{IsBetweenWindows, mote_here}
 use Rattle.worker_window.proofs.Places.{some_with, some_within}
 use Rattle.worker_window.proofs.Traces.{all_kept, rest_lines, trace_at}

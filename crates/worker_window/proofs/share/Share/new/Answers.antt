@@ -1,12 +1,12 @@
 use Rattle.std.proofs.Common.{◌≡◌, ◌∙◌, ap, arith, subst, length, length-append, map, None, Option}
 use Rattle.std.specs.List.{filter}
-use Rattle.worker_window.specs.declared.own.OwnWindow.{OwnWindow}
-use Rattle.mote_net.specs.Meaning.{net_of}
-use Rattle.window_laws.specs.Agenda.{Wake, up_to}
-use Rattle.net_agenda.specs.Buckets.{HoldsItems}
-use Rattle.net_agenda.proofs.Boots.{pushed}
 use Rattle.copy_exchange.specs.Crossed.{is_own}
+use Rattle.mote_net.specs.Meaning.{net_of}
+use Rattle.net_agenda.specs.Buckets.{HoldsItems}
+use Rattle.window_laws.specs.Agenda.{Wake, up_to}
 use Rattle.worker_window.specs.Share.{IfOwn, IsBeforeFirstTurn}
+use Rattle.worker_window.specs.declared.own.OwnWindow.{OwnWindow}
+use Rattle.net_agenda.proofs.Boots.{pushed}
 use Rattle.worker_window.proofs.Begins.{wakes_more, begins}
 use Rattle.worker_window.proofs.share.Share.new.Goals as goal
 

@@ -1,10 +1,10 @@
 use Rattle.std.proofs.Common.{◌≡◌, ◌<◌, ℕ, [], length, map, Option}
 use Rattle.std.specs.List.{filter}
 use Rattle.std.specs.Prelude.{slice_index_or}
-use Rattle.mote_net.specs.Meaning.{net_of}
-use Rattle.window_laws.specs.Agenda.{Wake, up_to}
-use Rattle.net_agenda.specs.Buckets.{HoldsItems}
 use Rattle.copy_exchange.specs.Crossed.{is_own}
+use Rattle.mote_net.specs.Meaning.{net_of}
+use Rattle.net_agenda.specs.Buckets.{HoldsItems}
+use Rattle.window_laws.specs.Agenda.{Wake, up_to}
 use Rattle.worker_window.specs.Share.{IfOwn, IsBeforeFirstTurn}
 use Rattle.worker_window.specs.declared.own.OwnWindow.{OwnWindow}
 use Rattle.worker_window.proofs.share.Share.new.Given as goal

@@ -1,11 +1,11 @@
 use Rattle.std.proofs.Common.{◌≡◌, ◌∙◌, ◌++◌, ◌<◌, ◌≤◌, ◌^◌, length, List, map, None, Some, ap, refl, subst, sym, slice_set}
 use Rattle.std.specs.List.{filter, flat_map, AllByRecursion}
-use Rattle.radio_packet.specs.declared.sent.Sent.{Sent}
-use Rattle.radio_medium.specs.Medium.{copies}
-use Rattle.window_laws.specs.Agenda.{Packet, wake_items}
+use Rattle.copy_exchange.specs.Crossed.{is_own, is_for_others}
 use Rattle.net_agenda.specs.Buckets.{HoldsItems}
 use Rattle.net_agenda.specs.Changes.{without_wakes}
-use Rattle.copy_exchange.specs.Crossed.{is_own, is_for_others}
+use Rattle.radio_medium.specs.Medium.{copies}
+use Rattle.radio_packet.specs.declared.sent.Sent.{Sent}
+use Rattle.window_laws.specs.Agenda.{Packet, wake_items}
 use Rattle.worker_window.specs.Log.{packets_in}
 use Rattle.worker_window.specs.Resting.{HasSent}
 use Rattle.worker_window.specs.Share.{mote_here}

@@ -1,21 +1,21 @@
 use Rattle.std.proofs.Common.{◌≡◌, ◌∙◌, ◌++◌, ◌∷◌, [], length, map, Vec, Option, Some, None, ap, refl, sym, subst, arith, IsSome}
-use Rattle.std.specs.Prelude.{IfSome, IsSomeAnd}
-use Rattle.std.specs.List.{AllByRecursion, filter, flat_map}
-use Rattle.std.specs.declared.alloc.Global.{Global}
 use Rattle.std.proofs.lemmas.List.{length-set, nil_from_length}
-use Rattle.radio_medium.specs.Medium.{Radio, copies}
+use Rattle.std.specs.List.{AllByRecursion, filter, flat_map}
+use Rattle.std.specs.Prelude.{IfSome, IsSomeAnd}
+use Rattle.copy_exchange.specs.Crossed.{is_own, is_for_others}
 use Rattle.mote_net.specs.Meaning.{net_of}
-use Rattle.window_laws.specs.Agenda.{Packet}
-use Rattle.window_laws.proofs.Lists.{every_append}
 use Rattle.net_agenda.specs.Buckets.{HoldsItems}
 use Rattle.net_agenda.specs.NetSystem.{tree_at}
-use Rattle.net_agenda.proofs.Gathered.{zero_from}
-use Rattle.copy_exchange.specs.Crossed.{is_own, is_for_others}
-use Rattle.worker_window.specs.declared.own.OwnWindow.{OwnWindow}
+use Rattle.radio_medium.specs.Medium.{Radio, copies}
+use Rattle.window_laws.proofs.Lists.{every_append}
+use Rattle.window_laws.specs.Agenda.{Packet}
 use Rattle.worker_window.specs.Resting.{ComesToRest, HasSent}
 use Rattle.worker_window.specs.Share.{mote_here}
 use Rattle.worker_window.specs.Window.{IsOutgoing}
 use Rattle.worker_window.specs.Worker.{AreCalled, CanMoteGoOn, MayEndAs}
+use Rattle.worker_window.specs.declared.own.OwnWindow.{OwnWindow}
+use Rattle.std.specs.declared.alloc.Global.{Global}
+use Rattle.net_agenda.proofs.Gathered.{zero_from}
 use Rattle.worker_window.proofs.Numbers.{front_different, last_among, not_last, still_among}
 use Rattle.worker_window.proofs.Parts.{window_copies, window_copies_are}
 use Rattle.worker_window.proofs.Places.{put_else}

@@ -1,13 +1,13 @@
 use Rattle.std.proofs.Common.{◌≡◌, ◌≤◌, ◌+◌, ◌++◌, ℕ, true, List, length}
-use Rattle.std.specs.Prelude.{IsSomeAnd}
 use Rattle.std.specs.List.{AllByRecursion}
-use Rattle.radio_packet.specs.declared.copy.RadioCopy.{RadioCopy}
+use Rattle.std.specs.Prelude.{IsSomeAnd}
+use Rattle.copy_exchange.specs.Crossed.{IsExpected}
 use Rattle.mote_net.specs.Meaning.{net_of}
 use Rattle.net_agenda.specs.NetSystem.{system_of}
+use Rattle.radio_packet.specs.declared.copy.RadioCopy.{RadioCopy}
 use Rattle.worker_window.specs.Events.{are_different, is_one_of}
 use Rattle.worker_window.specs.Share.{Motes, IsWholeShare, mote_here}
 use Rattle.worker_window.specs.Window.{IsOutgoing}
-use Rattle.copy_exchange.specs.Crossed.{IsExpected}
 use Rattle.worker_window.proofs.Parts.{window_copies}
 use Rattle.worker_window.proofs.Resting.{IsFitOwn, Resting}
 use Rattle.worker_window.proofs.share.Share.run_window.Given as goal

@@ -1,9 +1,9 @@
 use Rattle.std.proofs.Common.{◌≡◌, ◌+◌, ◌∙◌, ◌<◌, ◌≤◌, sym, ap, subst, suc, arith}
-use Rattle.mote_net.specs.Meaning.{net_of}
 use Rattle.copy_exchange.proofs.Marked.{marks_stay}
-use Rattle.window_workers.specs.WindowLength.{end_of_window}
+use Rattle.mote_net.specs.Meaning.{net_of}
 use Rattle.window_workers.specs.MarkedBounds.{bound, windows_of}
 use Rattle.window_workers.specs.MarkedThread.{WorkerRunsAllWindows}
+use Rattle.window_workers.specs.WindowLength.{end_of_window}
 use Rattle.window_workers.proofs.MarkedBounds.{at_first, are_windows, goes_on, over, next_bound}
 use Rattle.window_workers.proofs.MarkedWindows.{no_window}
 use Rattle.window_workers.proofs.marks.thread.MarkRunner.run_worker.Goals as goal

@@ -1,8 +1,8 @@
 use Rattle.std.proofs.Common.{◌≡◌, ◌+◌, ◌-◌, ◌≤◌}
 use Rattle.mote_net.specs.Meaning.{net_of}
-use Rattle.copy_exchange.specs.Marks.{AreTakersCounts}
 use Rattle.window_workers.specs.MarkedBounds.{bound, windows_of}
 use Rattle.window_workers.specs.MarkedThread.{WorkerRunsAllWindows}
+use Rattle.copy_exchange.specs.Marks.{AreTakersCounts}
 use Rattle.window_workers.proofs.marks.thread.MarkRunner.run_worker.Given as goal
 
 abbrev pub invariant-windows : goal.invariant-windows

@@ -1,7 +1,7 @@
 use Rattle.std.proofs.Common.{subst, append-nil, List, length}
 use Rattle.std.specs.List.{AllByRecursion as Each}
-use Rattle.radio_packet.specs.declared.copy.RadioCopy.{RadioCopy}
 use Rattle.mote_net.specs.Meaning.{net_of}
+use Rattle.radio_packet.specs.declared.copy.RadioCopy.{RadioCopy}
 use Rattle.worker_window.specs.Window.{IsOutgoing, RunsWindow}
 use Rattle.window_workers.proofs.Sent.{leaves_sent}
 use Rattle.window_workers.proofs.marks.thread.MarkRunner.send_window.Goals as goal
