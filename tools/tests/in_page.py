@@ -44,6 +44,10 @@ class InPage(InBrowser):
         self.browser.run('(motesim.backend.most = 1e6, 1)')
         self.browser.settle()
 
+    def forget_session(self) -> None:
+        """The next visit is one of another tab, which has no steps of this one."""
+        self.value('(Storage.prototype.setItem = () => {}, sessionStorage.clear())')
+
     def said(self) -> Any:
         return self.value('by("said").textContent')
 

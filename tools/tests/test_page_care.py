@@ -80,7 +80,7 @@ class Texts(InPage):
         self.wait('run.rows === 1072')
         self.example()
         # (a visit in another tab, which has no steps of this one)
-        self.value('(m.reactions.left.length = 0, 1)')
+        self.forget_session()
         self.browser.open(self.page)
         self.assertTrue(self.value('text').startswith('# my hour of work'))
         self.example()
@@ -97,7 +97,7 @@ class Texts(InPage):
         self.undo()
         self.assertIn('if is(packet) {', self.value('text').replace('(is(packet))', 'is(packet)'))
         self.undo()
-        self.wait('!by("try").hidden')
+        self.wait('by("try")')
         self.assertEqual(self.value('text'), FLOODING)
 
     def test_undo_in_a_field_is_about_the_field(self) -> None:

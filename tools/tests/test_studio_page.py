@@ -20,7 +20,7 @@ EXPECTED = text_of('two_hear.expect.toml')
 POLLED = text_of('polled.toml')
 # (no run is stopped because the machine is busy)
 LIMITS = Limits(SECONDS, 1 << 30, 16 << 20)
-READY = 'window.motesim && motesim.ready && (motesim.web.judged || document.body.classList.contains("stale"))'
+READY = 'window.motesim && motesim.ready && (motesim.checks.text || document.body.classList.contains("stale"))'
 
 
 class InStudio(InBrowser):
@@ -65,7 +65,7 @@ class InStudio(InBrowser):
 
     def settled(self) -> None:
         """Waits until the results of the text are there."""
-        self.wait('web.judged === web.number && web.ran === web.asked && web.history.step.run')
+        self.wait('m.checks.text === text && web.ran === web.asked && web.history.step.run')
 
     def shown(self, name: str) -> Any:
         return self.value('by(%s).innerText' % json.dumps(name))
@@ -179,20 +179,22 @@ class Page(InStudio):
         self.put(NET.replace('print 1;', 'print 8;'))
         self.wait('Array.from(run.w).includes(8) && !document.body.classList.contains("stale")')
 
-    def test_a_text_that_was_not_saved_is_offered_again(self) -> None:
+    def test_a_text_that_was_not_saved_is_kept_unless_the_file_is_another(self) -> None:
         self.open()
         self.browser.run('localStorage.clear()')
         text = NET.replace('print 1;', 'print 7;')
         self.put(text)
-        self.browser.wait('localStorage.length')
-        for button, kept in ('Take it', text), ('Forget it', NET):
-            self.visit()
-            self.assertEqual(self.value('text'), NET)
-            self.said('a text of net.toml that was not saved')
-            self.press_in('offers', button)
-            self.assertEqual(self.value('text'), kept)
         self.visit()
-        self.assertFalse(self.value('by("offers").childNodes.length'))
+        self.assertEqual(self.value('text'), text)
+        self.press('undo')
+        self.assertEqual(self.value('text'), NET)
+        self.press('redo')
+        self.file.write_text(NET + '# of another\n')
+        self.visit()
+        self.assertTrue(self.value('text.endsWith("# of another\\n")'))
+        self.press('examples')
+        self.press_in('own', 'net.toml')
+        self.wait('text === %s' % json.dumps(text))
 
     def test_a_text_is_saved_into_its_file_and_not_over_another(self) -> None:
         self.open()

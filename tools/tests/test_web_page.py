@@ -179,7 +179,7 @@ class Page(InPage):
         self.undo('y')
         self.wait('run.losses[0][2] === 1')
 
-    def test_motes_are_added_snapped_and_removed(self) -> None:
+    def test_motes_are_added_moved_and_removed(self) -> None:
         self.open()
         x, y = self.place(4)
         self.press('add')
@@ -188,7 +188,6 @@ class Page(InPage):
         x, y = self.place(24)
         self.browser.drag(x, y, x + 40, y + 3)
         self.wait('run.places[24][0] > 40')
-        self.assertEqual(self.value('run.places[24][1]'), 40)
         self.browser.click(*self.place(4))
         self.assertEqual(self.value('by("remove").textContent'), 'Remove mote 4')
         self.press('remove')
@@ -330,15 +329,9 @@ class Page(InPage):
 
     def test_another_link_in_the_open_page_is_followed(self) -> None:
         self.open()
-        self.put(FLOODING.replace('end = 160', 'end = 50'))
-        self.wait('run.end === 50 && location.hash.startsWith("#t=1.")')
-        link = self.browser.run('location.hash')
-        self.press('examples')
-        self.value('document.querySelector("#gallery-cards button").click()')
-        self.wait('run.end !== 50 && !location.hash')
+        link = fragment(FLOODING.replace('end = 160', 'end = 50'))
         self.browser.run('void (location.hash = %s)' % json.dumps(link))
-        self.browser.wait('window.motesim && motesim.ready '
-                          '&& motesim.web.intro === "This is your text of the last time."')
+        self.browser.wait('window.motesim && motesim.ready && motesim.web.intro === "This net came with the link."')
         self.assertEqual(self.value('run.end'), 50)
 
     def test_two_fingers_zoom(self) -> None:
@@ -426,6 +419,7 @@ class Page(InPage):
         text = self.value('text')
         self.wait('localStorage.getItem("motesim draft")')
         saved = self.handed_out('save-page', 'flooding.html')
+        self.forget_session()
         self.browser.open(self.page)
         self.assertEqual(self.value('text'), text)
         self.assertIn('of the last time', self.said())

@@ -4,7 +4,6 @@ from __future__ import annotations
 
 import re
 from collections.abc import Mapping
-from dataclasses import replace
 
 from motesim.explain.habits import habits
 from motesim.explain.repair import LINES, TABLES
@@ -29,7 +28,7 @@ def keys(table: Mapping[str, Rule]) -> dict[str, object]:
 
 def rules() -> dict[str, object]:
     """The rules: of the rows of programs, and of all others."""
-    top = {**TOP, 'version': replace(TOP['version'], is_needed=False), 'queue': Rule(dict, is_needed=False)}
+    top = {**TOP, 'queue': Rule(dict, is_needed=False)}
     medium = {**TABLES['medium'], 'collide': Rule(bool, is_needed=False)}
     brackets = [(r'\s*\[%s\]\s*' % it if it != 'medium' else r'\s*\[\[%s\]\]\s*' % it,
                  '[[%s]]' % it if it != 'medium' else '[%s]' % it, 'brackets') for it in TABLES]

@@ -4,17 +4,17 @@ import assert from 'node:assert/strict';
 import fs from 'node:fs';
 import {createRequire} from 'node:module';
 import {test} from 'node:test';
-import {distance, mend} from '../../motesim/web/page/mend.js';
+import {areNear, mend} from '../../motesim/web/page/mend.js';
 import {placeOfFault} from '../../motesim/web/page/errors.js';
 import {given} from './data.js';
 
 const HERE = new URL('..', import.meta.url), WEB = new URL('../../../web/', import.meta.url);
 const {runModule} = createRequire(WEB)(new URL('run_module.js', WEB).pathname);
-const LEAST = 47;
+const LEAST = 52;
 
 test('words are near each other', () => assert.deepEqual(
-  [['newst', 'newest'], ['form', 'from'], ['print', 'print'], ['send', 'recv'], ['a', 'abcd']].map(its => distance(...its)),
-  [1, 1, 0, 3, 3]));
+  [['newst', 'newest'], ['form', 'from'], ['print', 'print'], ['send', 'recv'], ['a', 'abcd'], ['range', 'rnag']].map(
+    ([a, b]) => [0, 1, 2].findIndex(most => areNear(a, b, most))), [1, 1, 0, -1, -1, 2]));
 
 test('usual mistakes are corrected', async () => {
   const module = new WebAssembly.Module(fs.readFileSync(new URL('motesim.wasm', WEB)));

@@ -60,7 +60,8 @@ test('a process has its name in the words of a claim, also where programs have d
 test('a fault has few words', () => assert.deepEqual(
   ['link 1 to 2 is broken', 'mote 3 is silent', 'packet 4 of mote 0 is lost', 'packet 4 of mote 0 is 2 late on the way to mote 5',
     'mote 4 is off from 40 to 80', 'mote 4 restarts at 40'].map(it => short(faultOf(it))),
-  ['link 1 to 2', 'mote 3', 'packet 4 of mote 0', 'packet 4 of mote 0 to mote 5, 2 late', 'mote 4', 'mote 4']));
+  ['link 1 to 2', 'mote 3', 'packet 4 of mote 0', 'packet 4 of mote 0 is 2 late on the way to mote 5',
+    'mote 4 is off from 40 to 80', 'mote 4 restarts at 40']));
 
 test('comments at the head of a text are changed in their place, and lose a mote', () => {
   const text = '# A net.\n# fault: mote 1 is silent\n# fault: link 2 to 3 is broken\n\nend = 9\n';

@@ -70,7 +70,6 @@ async function showWarnings(text, number) {
   byId('warnings').hidden = !found.warnings.length;
   byId('warnings').replaceChildren(...found.warnings.map(({name, text: words, place}) =>
     makeButton(`Warning (${name}): ${words}.`, () => { if (place) web.pad.select(...place); })));
-  web.judged = number;
 }
 
 export function beginAnswers() {

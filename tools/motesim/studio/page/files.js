@@ -1,23 +1,13 @@
 // Files of the studio: opening, saving, and the page of the run as one file.
 import {byId, handOut, makeButton, onClick} from '../../timeline/page/dom.js';
 import {page} from '../../timeline/page/stage.js';
-import {drafts, keepDraft} from '../../web/page/keeping.js';
+import {keepDraft} from '../../web/page/keeping.js';
 import {attempt, setOutcome} from '../../web/page/outcome.js';
-import {change, open, runNow, setOpened} from '../../web/page/web.js';
+import {open, runNow, setOpened} from '../../web/page/web.js';
 
 const {web} = page;
 
 const isDirty = () => web.document && web.history.text !== web.saved;
-
-function offerDraft({name}, isAgain) {
-  const draft = drafts().find(it => it.name === name);
-  if (isAgain || !draft || draft.text === web.history.text) return;
-  setOutcome(`This browser has a text of ${name} that was not saved.`, '', [], [
-    ['Take it', () => change(draft.text, 'edit')], ['Forget it', () => {
-      keepDraft(web.saved, draft);
-      setOutcome('The text is that of the file.');
-    }]]);
-}
 
 /** Shows the name of the document, and whether it is saved. */
 function nameDocument() {
@@ -41,7 +31,7 @@ async function save(over = false, named = '') {
   // (what a run that is still to come shows would hide the answer)
   if (web.shown !== text) await runNow();
   if (said.changed) {
-    return setOutcome(`${said.changed}.`, 'bad', [], named ? [] : [['Overwrite it with mine', () => save(true)],
+    return setOutcome(`${said.changed}.`, 'bad', named ? [] : [['Overwrite it with mine', () => save(true)],
       ['Load the other', () => openFile(web.document.name)]]);
   }
   setOpened({document: {...file, ...said, maySave: true}, saved: text});
@@ -63,7 +53,6 @@ async function exportPage() {
   if (made) handOut(name.replace(/\.toml$/, '.html'), [made], 'text/html');
 }
 
-/** @param {{files: string[], folder: string}} began */
 export function beginFiles({files, folder}) {
   web.folder = folder;
   onClick({save: () => save(), 'save-as': saveAs, export: exportPage});
@@ -77,6 +66,5 @@ export function beginFiles({files, folder}) {
     save();
   });
   page.reactions.outdated.push(nameDocument);
-  page.reactions.kept.push(text => keepDraft(text));
-  page.reactions.opened.push(nameDocument, offerDraft);
+  page.reactions.opened.push(nameDocument);
 }

@@ -42,10 +42,8 @@ export class Server extends Alone {
     return '';
   }
 
-  /** Takes an expectation out of the file beside the document. */
   async unexpect(words) { await this.write(withoutSentence(this.expected.text, words)); }
 
-  /** Writes the file of expectations. */
   async write(source) {
     const {document, history: {text}} = page.web;
     await this.ask('expect', {...document, text, source, stamp: this.expected?.stamp || ''});

@@ -2,9 +2,8 @@
 // from the columns of runs.
 import {Run} from '../../timeline/page/data.js';
 import {indexRun} from '../../timeline/page/index.js';
-import {Refused} from '../../timeline/page/stage.js';
 import {FAULT, commentsIn} from './comments.js';
-import {ofRun, placeOfFault, ruleOf} from './errors.js';
+import {faultIn, ofRun} from './errors.js';
 import {mend} from './mend.js';
 import {readToml} from './toml.js';
 
@@ -21,12 +20,13 @@ class Bench {
   constructor(script) { this.script = script; }
 
   /** The answer of a module to a text, within so many milliseconds. A question that goes on is ended.
-   * @param {any} asked @param {number} most @returns {Promise<any>} */
+   * @returns {Promise<any>} */
   ask(asked, most) {
     this.end({superseded: true});
     return new Promise(done => {
       const worker = this.worker ||= new Worker(this.script);
-      const timer = setTimeout(() => this.end({limit: `This took longer than ${Math.round(most / 1000)} seconds, so it was stopped.`}), most);
+      const limit = `This took longer than ${Math.round(most / 1000)} seconds, so it was stopped.`;
+      const timer = setTimeout(() => this.end({limit}), most);
       const finish = answer => {
         clearTimeout(timer);
         this.end = () => {};
@@ -63,8 +63,6 @@ export function scenarioOf(text) {
     losses: loss.map(it => [it.from, it.to, it.every])};
 }
 
-/** @implements {Backend}
- * @typedef {import('../../timeline/page/stage.js').Backend} Backend */
 export class Alone {
   number = 0;
   /** The milliseconds after which a run is ended. */
@@ -97,18 +95,9 @@ export class Alone {
     return number === this.number ? {run, number, took: got.took} : {superseded: true};
   }
 
-  /** An error of a text, which motesim says by a line. @param {string} text @param {string} line @returns
-   * {Promise<any>} */
-  async faultOf(text, line) {
-    const {rules, corrections} = this.known;
-    const place = placeOfFault(text, line, corrections.keys),
-      [, name, row] = /program (\S+) fault \d+ line (\d+)/.exec(line) || [];
-    const where = name && place ? `Line ${place[0] + 1} of the text is line ${row} of program ${name}.` : '';
-    return {line, place, where, words: ruleOf(rules, line)};
-  }
+  async faultOf(text, line) { return faultIn(text, line, this.known); }
 
-  /** What motecheck answers to claims about the run of a text; with options, its survey.
-   * @param {string} text @param {string[]} claims @param {string[]} options */
+  /** What motecheck answers to claims about the run of a text; with options, its survey. */
   async check(text, claims, options = []) {
     const {number} = this, module = await this.module;
     if (number !== this.number) return {superseded: true};
@@ -131,22 +120,8 @@ export class Alone {
 
   endSurvey() { this.back.end({superseded: true}); }
 
-  /** What must hold of a text besides its own claims. @param {any} document @param {string} text
-   * @returns {Promise<any[]>} */
-  async expectations(document, text) { return []; }
-
-  /** Keeps an expectation that the reader writes: a claim that belongs into the text; '' if it is kept elsewhere.
-   * @param {string} words @returns {Promise<string>} */
-  async expect(words) { return words; }
-
-  /** Forgets an expectation that isn't in the text. @param {string} words @returns {Promise<void>} */
-  async unexpect(words) {}
-
   stop() {
     this.number++;
     this.front.end({limit: 'You stopped the run.'});
   }
-
-  /** @param {string} what @param {any} asked @returns {Promise<any>} */
-  async ask(what, asked) { throw new Refused('Only the studio answers this.'); }
 }

@@ -1,4 +1,4 @@
-// Answers of motecheck in the form of its option --json, read from its text.
+// Answers of motecheck, whose lines each have one fact.
 import {faultOf} from './faults.js';
 
 /** A verdict on a claim: because of what it is broken in a run, or the sets of faults that break it.

@@ -12,7 +12,7 @@ import {claimsOfLine, suggestions, wordsOf} from './claims.js';
 import {EXPECT, commentsIn, withComment, withoutComment} from './comments.js';
 import {whyMissing} from './diff.js';
 import {beginFaults} from './faults.js';
-import {beginMeter, brokenNow, leaveOut, measure, sayVerdict} from './meter.js';
+import {beginMeter, brokenNow, measure, sayVerdict} from './meter.js';
 import {attempt} from './outcome.js';
 import {change} from './web.js';
 
@@ -22,49 +22,45 @@ const {web, checks} = page;
 async function judge(text, number) {
   // (a run that goes on is of a newer text, and shares the worker)
   const isOld = () => number !== web.number || web.ran !== web.asked, [{run}] = page.panes;
-  const others = await page.backend.expectations(web.document, text);
+  const others = await page.backend.expectations?.(web.document, text) || [];
   if (isOld()) return;
-  const items = [...commentsIn(text, EXPECT).map(claim => ({words: wordsOf(claim, run, text), claims: [claim],
-    isOwn: true})), ...others];
-  const decided = await decide(text, items.flatMap(it => it.claims));
+  const own = commentsIn(text, EXPECT).map(claim => ({words: wordsOf(claim, run, text), claims: [claim], isOwn: true}));
+  const items = [...own, ...others], decided = await decide(text, [...new Set(items.flatMap(it => it.claims))]);
   if (!decided || isOld()) return;
-  checks.items = items.map(it => ({...it, verdicts: it.claims.map(claim => decided.verdicts.get(claim))}));
-  Object.assign(checks, {text, took: Math.min(decided.took, web.took), unused: decided.unused.map(it => it.text)});
+  const verdictOf = claim => decided.claims.find(it => it.claim === claim);
+  Object.assign(checks, {text, items: items.map(it => ({...it, verdicts: it.claims.map(verdictOf)})),
+    unused: decided.unused.map(it => it.text)});
   page.reactions.judged.forEach(does => does());
   redraw();
   if (checks.follows) await follow();
   if (!isOld()) await measure();
 }
 
-/** The verdicts on claims. One that can't be read is left out, and says where. */
+/** What motecheck answers to claims. One that can't be read is left out, and says where. @returns {Promise<any>} */
 async function decide(text, claims) {
-  const verdicts = new Map(), left = [...new Set(claims)];
-  const refuse = (claim, why) => verdicts.set(claim, {claim, verdict: 'refused', because: {text: why}});
-  while (left.length) {
-    const got = await page.backend.check(text, left);
-    if (got.superseded) return null;
-    const [, row, column] = /claims fault line (\d+) column (\d+)/.exec(got.line || '') || [];
-    if (row) {
-      const [claim] = left.splice(Number(row) - 1, 1);
-      refuse(claim, `It can't be read from here on: ${claim.slice(Number(column) - 1) || 'its end'}`);
-    } else if (got.answer === undefined) for (const claim of left.splice(0)) refuse(claim, got.limit || got.line);
-    else {
-      const answer = answerIn(got.answer);
-      for (const it of answer.claims) verdicts.set(it.claim, it);
-      return {verdicts, took: got.took, unused: answer.unused};
-    }
+  if (!claims.length) return {claims: [], unused: []};
+  const got = await page.backend.check(text, claims), refuse = (claim, why) => ({claim, verdict: 'refused',
+    because: {text: why}});
+  if (got.superseded) return null;
+  const [, row, column] = /claims fault line (\d+) column (\d+)/.exec(got.line || '') || [], at = Number(row) - 1;
+  if (row) {
+    const others = await decide(text, claims.filter((_, i) => i !== at)), rest = claims[at].slice(Number(column) - 1);
+    return others && {...others, claims: [...others.claims, refuse(claims[at],
+      `It can't be read from here on: ${rest || 'its end'}`)]};
   }
-  return {verdicts, took: 0, unused: []};
+  if (got.answer !== undefined) return answerIn(got.answer);
+  return {claims: claims.map(claim => refuse(claim, got.limit || got.line)), unused: []};
 }
 
 function showHeld() {
   const {run} = page.panes[0], made = new Set(checks.items.flatMap(it => it.claims));
   // (what a run with faults does is nothing to expect)
-  const offers = run.faults.length ? [] : suggestions(run, checks.text).filter(claim => !made.has(claim));
+  const all = suggestions(run, checks.text), offers = run.faults.length ? [] : all.filter(claim => !made.has(claim));
   byId('checks').classList.remove('earlier');
   byId('held').replaceChildren(...checks.items.map(itemOf));
   byId('suggested').replaceChildren(offers.length ? 'Suggested: ' : '', ...offers.map(claim =>
     makeButton(`+ ${wordsOf(claim, run, checks.text)}`, () => expect(claim), {title: claim})));
+  byId('expect-asked').placeholder = all[0];
 }
 
 const small = (name, does, title) => makeButton(name, does, {title, className: 'small'});
@@ -87,24 +83,17 @@ function itemOf({words, claims, verdicts, isOwn, remark = ''}) {
   const broken = verdicts.find(it => it.verdict !== 'holds'), isThere = broken?.verdict === 'broken';
   const [is, sign, said] = !verdicts.length ? ['', '?', 'not decided'] : broken ? ['broken', '✗', 'broken'] :
     ['holds', '✓', 'holds'];
+  const remarks = [broken?.because?.text, remark,
+    checks.without.has(words) && 'Most faults break this, so they aren\'t counted.'];
   return element('li', '', [element('span', sign, [], {className: 'sign', 'aria-label': said}), element('div', '', [
     isThere ? makeButton(words, () => goToBreak(broken, words)) : element('span', words, [],
       {title: claims.join('\n')}),
     small('×', () => forget(words, claims, isOwn), 'Expect this no longer'),
     ...isThere && !isOwn ? [small('Shrink', () => shrink(words),
       'Replace the text by a small scenario in which this is broken in the same way')] : [],
-    ...is === 'holds' ? [tickOf(words)] : [],
-    element('span', [broken?.because?.text, remark].filter(Boolean).join('\n'), [], {className: 'why'})])],
-      {className: is});
+    element('span', remarks.filter(Boolean).join('\n'), [], {className: 'why'})])], {className: is});
 }
 
-/** Whether an expectation must also hold with a fault. */
-const tickOf = words => element('label', '', [element('input', '', [], {type: 'checkbox',
-  checked: !checks.without.has(words),
-  onchange: () => leaveOut(words)}), ' with faults'],
-    {className: 'small', title: 'Whether this must also hold with a fault'});
-
-/** Adds a claim to the text. */
 function expect(claim) { change(withComment(web.history.text, EXPECT, claim), 'edit'); }
 
 /** Shows the line that breaks a claim, or the place of the missing one, and says why. */
@@ -153,12 +142,11 @@ export function beginChecks() {
   onSubmit('expect-form', () => {
     const field = byId('expect-asked'), words = field.value.trim();
     return words && attempt(async () => {
-      const claim = await page.backend.expect(words);
+      const claim = page.backend.expect ? await page.backend.expect(words) : words;
       field.value = '';
       if (claim) expect(claim); else await judge(web.shown, web.number);
     });
   });
-  page.reactions.opened.push(() => Object.assign(checks, {without: new Set(), chosen: false}));
   page.reactions.ran.push((text, number) => attempt(() => judge(text, number)));
   page.reactions.judged.push(showHeld, sayVerdict);
   page.reactions.surveyed.push(showHeld);

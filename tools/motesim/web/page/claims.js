@@ -21,44 +21,41 @@ const motesIn = list => list.split(', ').flatMap(it => {
 
 const subject = motes => motes.length === 1 ? `mote ${motes[0]}: ` : `each of motes ${listOf(motes)}: `;
 
-/** The names of processes in the claims about a text: numbers if its programs have different processes. */
-function processNames(text) {
-  const programs = /** @type {Record<string, string>} */ (tablesOf(text).programs || {}), listIn = program =>
-    (/\bprocess\s+([^;]*);/.exec(program.replace(/\/\/.*/g, ''))?.[1] || '').split(',').map(it => it.trim());
-  const own = Object.fromEntries(Object.entries(programs).map(([name, its]) => [name, listIn(its)])),
-    [first] = Object.values(own);
-  const isSame = Object.values(own).every(it => it.join() === first.join()),
-    ofMote = (run, mote) => own[run.programs[run.begins[mote]]] || [];
-  return {
-    inClaim: (run, mote, name) => isSame ? name : String(ofMote(run, mote).indexOf(name)),
-    /** The names that a process of a claim has in the programs of motes. */
-    inWords: (run, motes, it) => isSame ? it : [...new Set(motes.map(mote => ofMote(run, mote)[it] ??
-      it))].join(' or '),
-  };
+/** The processes of each program of a text; null if all have the same, which claims call by their names. Otherwise
+ * claims have their numbers. */
+function ownProcesses(text) {
+  const lists = Object.entries(tablesOf(text).programs || {}).map(([name, program]) =>
+    [name, (/\bprocess\s+([^;]*);/.exec(String(program).replace(/\/\/.*/g, ''))?.[1] || '').trim().split(/\s*,\s*/)]);
+  return new Set(lists.map(([, its]) => String(its))).size > 1 ? Object.fromEntries(lists) : null;
 }
+
+const programOf = (run, mote) => run.programs[run.begins[mote]];
+const inClaim = (own, run, mote, name) => own ? own[programOf(run, mote)].indexOf(name) : name;
+const inWords = (own, run, motes, it) => own ?
+  [...new Set(motes.map(mote => own[programOf(run, mote)]?.[it] ?? it))].join(' or ') : it;
 
 /** The claims that a line is expected of its mote, and of all motes that have such a line; none for other lines. */
 export function claimsOfLine(run, line, text) {
   const mote = run.moteOf(line), kind = run.kind[line], value = ` value ${run.w[line]}`;
   const isSame = it => run.kind[it] === kind && run.w[it] === run.w[line] && run.p[it] === run.p[line];
-  const process = () => processNames(text).inClaim(run, mote, run.process(run.p[line]));
+  const own = ownProcesses(text), called = m => kind === PRINT && inClaim(own, run, m, run.process(run.p[line]));
   const pattern = kind === SEND ? `send${value}` : kind === RECV ? `recv sender ${run.p[line]}${value}` :
-    kind === PRINT ? `print process ${process()}${value}` : '';
-  const same = pattern ? [...run.begins.keys()].filter(m => numbers(run.traceStart[m],
-    run.traceStart[m + 1]).some(isSame)) : [];
-  return [same.length ? [mote] : [], same.length > 1 ? same : []].filter(it => it.length).map(
-    motes => `${subject(motes)}at least 1 line "${pattern}"`);
+    kind === PRINT ? `print process ${called(mote)}${value}` : '';
+  const same = pattern ? [...run.begins.keys()].filter(m => called(m) === called(mote) &&
+    numbers(run.traceStart[m], run.traceStart[m + 1]).some(isSame)) : [];
+  return [...same.length ? [[mote]] : [], ...same.length > 1 ? [same] : []].map(motes =>
+    `${subject(motes)}at least 1 line "${pattern}"`);
 }
 
 /** Claims that a run keeps, and that its author probably means: what motes print, and that none halts. */
 export function suggestions(run, text) {
-  const names = processNames(text), groups = /** @type {Map<string, number[]>} */ (new Map());
+  const own = ownProcesses(text), groups = /** @type {Map<string, number[]>} */ (new Map());
   for (const [mote, lines] of run.prints.entries()) {
     for (const p of new Set(lines.map(line => run.p[line]))) {
       const values = lines.filter(line => run.p[line] === p).map(line => run.w[line]),
         sorted = [...values].sort((a, b) => a - b);
       if (values.length > MOST_VALUES) continue;
-      const test = `the lines "print process ${names.inClaim(run, mote, run.process(p))}" have in ${
+      const test = `the lines "print process ${inClaim(own, run, mote, run.process(p))}" have in ${
         values.join() === sorted.join() ? 'order of time' : 'any order'} exactly the values ${sorted.join(', ')}`;
       groups.set(test, [...groups.get(test) || [], mote]);
     }
@@ -88,7 +85,7 @@ export function wordsOf(claim, run, text) {
   if (!form || !words) return claim.replace(/^the net: /, '');
   const motes = motesIn(list), {process} = form.exec(test)?.groups || {}, others = [...run.begins.keys()].filter(m =>
     !motes.includes(m));
-  const named = process ? words.replace('$1', processNames(text).inWords(run, motes, process)) : words;
+  const named = process ? words.replace('$1', inWords(ownProcesses(text), run, motes, process)) : words;
   const said = test.replace(form, named).replace(/ from 0 to (\d+)$/, ' by $1');
   return each === 'mote' ? `mote ${list} ${said}` : others.length > 2 ? `each of motes ${list} ${said}` :
     `every mote${others.length ? ` but ${others.join(' and ')}` : ''} ${said}`;

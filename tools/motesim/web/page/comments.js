@@ -10,8 +10,7 @@ const headOf = text => (/^([ \t]*(#.*)?\n)*/.exec(text) || [''])[0];
 export const commentsIn = (text, mark) =>
   headOf(text).split('\n').flatMap(row => row.startsWith(mark) ? row.slice(mark.length).trim() : []);
 
-/** The text with what a function makes of its comments with a mark, each once.
- * @param {string} text @param {string} mark @param {(its: string[]) => string[]} change */
+/** The text with what a function makes of its comments with a mark, each once. */
 export function withComments(text, mark, change) {
   const head = headOf(text), rows = head.split('\n'), others = rows.filter(row => !row.startsWith(mark));
   const first = rows.findIndex(row => row.startsWith(mark)), behind = others.findIndex(row => !row.startsWith('#'));

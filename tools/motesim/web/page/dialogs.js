@@ -39,13 +39,13 @@ async function savePage(text, name) {
   handOut(name.replace(/(\.toml)?$/, '.html'), [html.slice(0, begin), inside, html.slice(end)], 'text/html');
 }
 
-/** What the dialog says of a link; null if the text is too long for one. @param {string|null} link */
+/** What the dialog says of a link; null if the text is too long for one. */
 const aboutLink = link => !link ?
   'This scenario is too long for a link in a chat or a mail: send the file, or this page saved with it.' : isServed() ?
     'Put this behind the address at which others open motesim.html, or send them that page, saved with your text.' :
     location.protocol !== 'file:' ? `The link carries the whole scenario, in ${digits(link.length)} characters.` :
-      'This page was opened from a file of this machine, so others can\'t open the link: send this page, which is saved ' +
-      'with your text. On a web server, its link carries the whole scenario.';
+      'This page was opened from a file of this machine, so others can\'t open the link: send this page, which is ' +
+      'saved with your text. On a web server, its link carries the whole scenario.';
 
 export async function showSharing(text, name) {
   const {line, mote, pane} = page.chosen, [copy, field] = [byId('copy-link'), byId('link')],
@@ -69,8 +69,7 @@ export async function showSharing(text, name) {
   byId('sharing').showModal();
 }
 
-/** Takes files that are chosen or dropped. `take` gets their texts; `refuse` gets what is wrong with one.
- * @param {(text: string, name: string) => void} take @param {(words: string) => void} refuse */
+/** Takes files that are chosen or dropped. `take` gets their texts; `refuse` gets what is wrong with one. */
 export function beginOpening(take, refuse) {
   const read = async file => {
     if (!file) return;

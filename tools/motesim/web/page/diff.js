@@ -25,12 +25,7 @@ const stretch = (run, mote) => mote === MEDIUM ? [0, run.packets] :
 const sameLine = (a, b, i, j) => a.kind[i] === b.kind[j] && a.at[i] === b.at[j] &&
   FIELDS[a.kind[i]].every(name => a.field(i, name) === b.field(j, name));
 
-function samePacket(a, b, i, j) {
-  const copies = a.copiesOf(i), others = b.copiesOf(j);
-  return ['packetAt', 'packetSender', 'packetValue'].every(name => a[name][i] === b[name][j]) &&
-    copies.length === others.length && ['copyTo', 'copyAfter'].every(name =>
-      copies.every((copy, place) => a[name][copy] === b[name][others[place]]));
-}
+const samePacket = (a, b, i, j) => a.packetText(i) === b.packetText(j);
 
 /** The first difference of a mote's traces, or of the logs: its moment, and its place in the trace or in the log; null
  * if they are the same.
@@ -62,9 +57,9 @@ export function difference(a, b) {
 
 /** The sender of the first packet at which two logs differ. */
 function senderOf(a, b, place) {
-  const packetOf = run => ['packetAt', 'packetSender', 'packetNumber'].map(name => run[name][place] ?? Infinity);
-  const [one, other] = [packetOf(a), packetOf(b)], at = one.findIndex((it, i) => it !== other[i]);
-  return (one[at] <= other[at] || at < 0 ? one : other)[1];
+  const [first] = [a, b].filter(run => place < run.packets).sort((one, other) =>
+    one.packetAt[place] - other.packetAt[place] || one.packetSender[place] - other.packetSender[place]);
+  return first.packetSender[place];
 }
 
 /** The first print that became another one, in words; '' if none did. */
@@ -91,8 +86,7 @@ function numbersInWords(run, before) {
     `A report of ${count(run.rows, 'line')} instead of ${digits(before.rows)}.`;
 }
 
-/** How a run differs from the one before the change.
- * @param {any} run @param {any} before @param {any} found their difference */
+/** How a run differs from the one before the change. @param {any} found their difference */
 export function effectInWords(run, before, {same, first}) {
   if (same) return 'This change has no effect: the report is the same.';
   if (!first) return 'The motes run other programs, and write the same lines.';
@@ -123,8 +117,10 @@ export async function whyMissing(before, run, mote) {
   if (!lost || !last) return {words: `${head}.`, line: -1};
   const from = run.find(last), k = lost.mote !== last.mote && before.kind[lost.line] === RECV ?
     run.packetOf(before.p[lost.line], before.x[lost.line]) : -1, copy = k >= 0 ? run.copyFor(k, lost.mote) : -1;
-  return {line: from, words: copy >= 0 ? `${head}: packet ${run.packetNumber[k]} of mote ${last.mote} to mote ${lost.mote}, sent at ${
-    run.packetAt[k]}, was ${FATE_WORDS[run.copyFate[copy]]}.` : `${head}: mote ${lost.mote} doesn't write "${lost.words}" at ${lost.at}.`};
+  const why = copy < 0 ? `mote ${lost.mote} doesn't write "${lost.words}" at ${lost.at}` :
+    `packet ${run.packetNumber[k]} of mote ${last.mote} to mote ${lost.mote}, sent at ${run.packetAt[k]}, was ${
+      FATE_WORDS[run.copyFate[copy]]}`;
+  return {line: from, words: `${head}: ${why}.`};
 }
 
 /** Brings the first difference into view, and selects its line. */

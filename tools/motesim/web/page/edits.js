@@ -3,7 +3,7 @@
 import {digits} from '../../timeline/page/dom.js';
 import {Refused} from '../../timeline/page/stage.js';
 import {faultsWithoutMote} from './comments.js';
-import {NoToml, readToml, tablesOf} from './toml.js';
+import {NoToml, readToml} from './toml.js';
 
 const MOST_PLACE = 30000, MOST_EVERY = 1000000, MOST_MOTES = 1000;
 
@@ -23,10 +23,9 @@ class Scenario {
     this.toml = readToml(text);
   }
 
-  /** @param {string} name @returns {any[]} */
+  /** @returns {any[]} */
   members(name) { return this.toml.tables[name] || []; }
 
-  /** The place of a value. @returns {[number, number]|undefined} */
   valueAt(...path) { return this.toml.place(...path)?.value ?? undefined; }
 
   /** The scenario with another piece between two offsets. */
@@ -63,7 +62,7 @@ class Scenario {
     return before ? this.changed(before[1], it[1], '') : this.changed(it[0], it[1] + comma.length, '');
   }
 
-  /** @param {string} name @param {string[]} keys each with its value */
+  /** @param {string[]} keys each with its value */
   appended(name, keys) {
     const count = this.members(name).length, {text} = this;
     if (this.valueAt(name)) return this.appendedInline(name, count - 1, `{ ${keys.join(', ')} }`);
@@ -137,25 +136,20 @@ const EDITS = {
   },
 };
 
-/** The text of a file of expectations with another one. @param {string} source @param {string} sentence */
+/** The text of a file of expectations with another one. */
 export function withSentence(source, sentence) {
-  const {tables, place} = readToml(source), all = tables.expect || [], words = JSON.stringify(sentence);
-  const list = place('expect')?.value, last = list && place('expect', all.length - 1)?.value;
-  if (!list) return `expect = [\n  ${words},\n]\n${source}`;
-  const at = last ? last[1] : list[0] + 1;
-  return `${source.slice(0, at)}${last ? ',' : ''}\n  ${words}${last ? '' : ',\n'}${source.slice(at)}`;
+  const file = new Scenario(source), words = JSON.stringify(sentence), last = file.members('expect').length - 1;
+  return file.valueAt('expect') ? file.appendedInline('expect', last, words).text :
+    `expect = [\n  ${words},\n]\n${source}`;
 }
 
 /** The text of a file of expectations without one; as it is, if this isn't in its list. */
 export function withoutSentence(source, sentence) {
-  const at = (tablesOf(source).expect || []).indexOf(sentence);
-  if (at < 0) return source;
-  const [from, to] = readToml(source).place('expect', at).value;
-  return source.slice(0, from).trimEnd() + source.slice(to).replace(/^\s*,/, '');
+  const file = new Scenario(source), at = file.members('expect').indexOf(sentence);
+  return at < 0 ? source : file.withoutInline('expect', at).text;
 }
 
-/** The text that an edit makes of another, and its effect in words.
- * @param {string} source @param {any} wish */
+/** The text that an edit makes of another, and its effect in words. */
 export function edit(source, wish) {
   try {
     const [{text}, said] = EDITS[wish.what](new Scenario(source), wish);

@@ -1,6 +1,5 @@
 // Faults of runs, each as its kind, its numbers and its text: those that the text carries, as a list beside it and on
 // the map; and the words about faults that were tried.
-import {drawCopy} from '../../timeline/page/arrows.js';
 import {byId, element, makeButton} from '../../timeline/page/dom.js';
 import {drawForm, drawPath, ring, stroke} from '../../timeline/page/forms.js';
 import {page} from '../../timeline/page/stage.js';
@@ -8,19 +7,18 @@ import {FAULT, KINDS as MARK, commentsIn, withComment, withComments, withoutComm
 import {change} from './web.js';
 
 /** A fault, as motecheck has it: `mote` is the one that sends, is silent or off.
- * @typedef {{kind: string, mote: number, to?: number, packet?: number, by?: number, text: string}} Fault */
+ * @typedef {{kind: string, mote: number, to?: number, packet?: number, text: string}} Fault */
 
-/** The kinds of faults that can be tried: the name, and the option of motecheck. */
-export const KINDS = [['links', '--links'], ['silent motes', '--silent'], ['lost copies', '--lost'],
-  ['late copies', '--late=1,4']];
+/** The kinds of faults that can be tried: the kind, the name, and the option of motecheck. */
+export const KINDS = [['link', 'links', '--links'], ['silent', 'silent motes', '--silent'],
+  ['lost', 'lost copies', '--lost'], ['late', 'late copies', '--late=1,4']];
 const FORMS = [/^(?<kind>link) (?<mote>\d+) to (?<to>\d+) is broken$/,
   /^mote (?<mote>\d+) (?:is )?(?<kind>silent|off|restarts)\b/,
-  /^packet (?<packet>\d+) of mote (?<mote>\d+) is (?:(?<by>\d+) )?(?<kind>lost|late)(?: on the way to mote (?<to>\d+))?$/];
-const MOST_DRAWN = 500;
+  /^packet (?<packet>\d+) of mote (?<mote>\d+) is (?:\d+ )?(?<kind>lost|late)(?: on the way to mote (?<to>\d+))?$/];
 
 const {web, checks} = page;
 
-/** A fault from its text. @param {string} text @returns {Fault} */
+/** A fault from its text. @returns {Fault} */
 export function faultOf(text) {
   const {kind = '', ...its} = FORMS.map(form => form.exec(text)?.groups).find(Boolean) || {};
   const named = Object.entries(its).filter(([, value]) => value !== undefined);
@@ -28,45 +26,41 @@ export function faultOf(text) {
     kind, text});
 }
 
-/** The faults that are a part of the run. */
-export const faultsNow = () => commentsIn(web.history.text, FAULT).map(faultOf);
+export const faultsNow = () => commentsIn(web.history.text, FAULT);
 
 /** The kinds of faults that a text is to survive; null if it names none. */
 export function kindsIn(text) {
   const [named] = commentsIn(text, MARK);
-  return named === undefined ? null : KINDS.map(([name]) => name).filter(name => named.split(/, */).includes(name));
+  return named === undefined ? null : KINDS.map(([, name]) => name).filter(it => named.split(/, */).includes(it));
 }
 
 export const withKinds = (text, kinds) => withComments(text, MARK, () => [kinds.join(', ')]);
 
-/** A fault in few words: `link 1 to 2`, `mote 3`, `packet 4 of mote 0 to mote 5`. @param {Fault} fault */
-export const short = ({kind, mote, to, packet, by}) => kind === 'link' ? `link ${mote} to ${to}` :
-  packet === undefined ? `mote ${mote}` :
-    `packet ${packet} of mote ${mote}${to === undefined ? '' : ` to mote ${to}`}${by ? `, ${by} late` : ''}`;
+/** A fault in few words: `link 1 to 2`, `mote 3`, `packet 4 of mote 0 to mote 5`. */
+export const short = ({text}) => text.replace(/ is (broken|silent|lost)( on the way)?/, '');
 
-/** The faults that alone break something, in words: a few by their names, more by their kinds. @param {Fault[]} faults */
+/** The faults that alone break something, in words: a few by their names, more by their kinds. */
 export function namesInWords(faults) {
-  const nouns = {link: 'links', silent: 'silent motes', lost: 'lost copies', late: 'late copies'};
-  const names = faults.length <= 3 ? faults.map(short) : Object.entries(nouns).flatMap(([kind, noun]) => {
+  const names = faults.length <= 3 ? faults.map(short) : KINDS.flatMap(([kind, name]) => {
     const its = faults.filter(it => it.kind === kind);
-    return its.length > 2 ? `one of ${its.length} ${noun}` : its.map(short);
+    return its.length > 2 ? `one of ${its.length} ${name}` : its.map(short);
   });
   return names.length > 1 ? `${names.slice(0, -1).join(', ')} or ${names[names.length - 1]}` : names.join();
 }
 
 /** Makes a fault a part of the run, or takes it away again. */
-function toggle(text) {
-  const isThere = commentsIn(web.history.text, FAULT).includes(text);
-  change((isThere ? withoutComment : withComment)(web.history.text, FAULT, text), 'fault');
+function toggle(fault) {
+  const changed = faultsNow().includes(fault) ? withoutComment : withComment;
+  change(changed(web.history.text, FAULT, fault), 'fault');
 }
 
-/** Makes faults those of the run of a text. @param {string[]} faults */
+/** Makes faults those of the run of a text. */
 export const setFaults = faults => change(withComments(web.history.text, FAULT, () => faults), 'fault');
 
 function showList() {
   const faults = faultsNow();
   byId('run-faults').hidden = !faults.length;
-  byId('run-faults').replaceChildren(faults.length > 1 ? 'Faults: ' : 'Fault: ', ...faults.map(({text}) => {
+  byId('run-faults').replaceChildren(faults.length > 1 ? 'Faults: ' : 'Fault: ', ...faults.map(text => {
     const isUnused = checks.unused.includes(text);
     return element('span', text, [makeButton('×', () => toggle(text), {title: 'Run without this fault'})],
       {className: isUnused ? 'chip unused' : 'chip', title: isUnused ? 'The run sends no such copy.' : ''});
@@ -77,7 +71,7 @@ function showList() {
 function faultsOf({run}) {
   const {mote, line, k, copy} = page.chosen, from = k >= 0 ? run.packetSender[k] : mote, to = run.copyTo[copy];
   const packet = `packet ${run.packetNumber[k]} of mote ${from} is lost`, silent = `mote ${from} is silent`;
-  const link = `link ${from} to ${to} is broken`, own = faultsNow().map(it => it.text);
+  const link = `link ${from} to ${to} is broken`, own = faultsNow();
   const its = copy >= 0 ? {[`${packet} on the way to mote ${to}`]: 'this copy is lost', [link]: link} :
     k >= 0 ? {[packet]: 'this packet is lost', [silent]: silent} : line < 0 ? {[silent]: 'it is silent'} : {};
   return Object.entries(its).map(([text, said]) =>
@@ -102,16 +96,7 @@ function drawOnMap(map) {
   }
 }
 
-/** Draws the copies that faults lose or delay. */
-function drawOnLanes(pane) {
-  const {run} = pane, copies = (run.faults || []).map(faultOf).flatMap(({mote, packet, to}) =>
-    run.packetsOf(mote).filter(k => packet === undefined || run.packetNumber[k] === packet).flatMap(k =>
-      run.copiesOf(k).filter(copy => to === undefined || run.copyTo[copy] === to).map(copy => [k, copy])));
-  for (const [k, copy] of copies.slice(0, MOST_DRAWN)) drawCopy(pane, k, copy, 2);
-}
-
 export function beginFaults() {
-  page.overlays.push(drawOnLanes);
   page.mapOverlays.push(drawOnMap);
   page.faultsOf = faultsOf;
   page.toggleFault = toggle;

@@ -36,32 +36,31 @@ export function keepDraft(text, {name, opened} = web.document) {
 }
 
 /** Keeps the steps of undo and redo for a visit of this address in this tab. */
-export function keepSession({steps, now}) {
+export function keepSession({steps, now}, address) {
   const first = Math.max(0, now - MOST_STEPS), near = steps.slice(first, now + MOST_STEPS);
   const documents = [...new Set(near.map(it => it.of))];
   const kept = near.map(({run, of, ...step}) => ({...step, of: documents.indexOf(of)}));
   stored(it => {
     it.removeItem(SESSION);
-    it.setItem(SESSION, JSON.stringify({at: location.href, of: home(), documents, steps: kept, now: now - first}));
+    it.setItem(SESSION, JSON.stringify({at: address, of: home(), documents, steps: kept, now: now - first}));
   }, 'session');
 }
 
 /** The steps that were kept for this address; null if there are none. */
-function sessionHere() {
+export function sessionHere() {
   const found = stored(it => JSON.parse(it.getItem(SESSION) || 'null'), 'session');
   if (!found || found.at !== location.href || found.of !== home()) return null;
   return {steps: found.steps.map(step => ({...step, run: null, of: found.documents[step.of]})), now: found.now};
 }
 
-/** The address of this page with a text; null if it is too long for chats and mails.
- * @param {string} text @returns {Promise<string|null>} */
+/** The address of this page with a text; null if it is too long for chats and mails. */
 export async function linkTo(text) {
   const letters = (await packed(text, FORMAT)).replace(/\+/g, '-').replace(/\//g, '_').replace(/=+$/, '');
   return letters.length > LONGEST_LINK ? null : `${isServed() ? HTML : location.href.split('#')[0]}#t=1.${letters}`;
 }
 
 /** The text in the part of an address behind `#`; null if it has none. Fails if a text is cut off, or of another form.
- * @param {string} hash @returns {Promise<string|null>} */
+ * @returns {Promise<string|null>} */
 async function textIn(hash) {
   const found = /(?:^#?|&)t=(?:1\.([A-Za-z0-9_-]+))?/.exec(hash);
   if (!found) return null;
@@ -70,21 +69,9 @@ async function textIn(hash) {
 }
 
 /** The text to open with, and where it came from; null for the first example.
- * @returns {Promise<{text: string, name: string, from: 'link'|'page'|'draft', session?: any}|null>} */
+ * @returns {Promise<{text: string, name: string, from: 'link'|'page'|'draft'}|null>} */
 export async function textToOpen() {
-  const session = sessionHere();
-  if (session) return {...session.steps[session.now].of.document, from: 'draft', session};
   const linked = await textIn(location.hash), [draft] = drafts(), saved = JSON.parse(byId('saved').textContent);
-  if (linked !== null && linked !== draft?.text) return {text: linked, name: 'shared.toml', from: 'link'};
+  if (linked !== null) return {text: linked, name: 'shared.toml', from: 'link'};
   return draft ? {text: draft.text, name: String(draft.name), from: 'draft'} : saved && {...saved, from: 'page'};
-}
-
-/** Writes the text into the address, so that going back and reloading keep it; null takes it away. */
-export async function keepInAddress(text) {
-  const link = text === null ? null : await linkTo(text);
-  try {
-    history.replaceState(null, '', link || location.href.split('#')[0]);
-  } catch {
-    // (a browser may refuse this for files)
-  }
 }

@@ -6,44 +6,31 @@ import {unpacked} from '../../timeline/page/packing.js';
 import {page} from '../../timeline/page/stage.js';
 import {Alone} from './alone.js';
 import {beginChecks} from './checks.js';
-import {keepDraft, keepInAddress, keepSession, textToOpen} from './keeping.js';
+import {sessionHere, textToOpen} from './keeping.js';
 import {say} from './outcome.js';
-import {begin, open, openExample} from './web.js';
+import {begin, open, openAgain, openExample} from './web.js';
 
 const ORIGINS = {link: 'This net came with the link.', page: 'This net was saved with the page.',
   draft: 'This is your text of the last time.'};
-let isLeaving = false;
 
 async function start() {
   const data = JSON.parse(byId('data').textContent);
   const module = unpacked(byId('module').textContent, 'gzip').then(
     bytes => WebAssembly.compile(/** @type {BufferSource} */ (bytes)));
-  const backend = new Alone(module, byId('worker').textContent, data);
   page.chainOf = chainOf;
-  const [first] = begin(backend, data);
+  const [first] = begin(new Alone(module, byId('worker').textContent, data), data), session = sessionHere();
   beginChecks();
-  page.reactions.kept.push(text => {
-    const {document, saved} = page.web;
-    keepDraft(text);
-    keepInAddress(document.where === 'example' && text === saved ? null : text);
-  });
-  page.reactions.opened.push(({name, where}) => {
-    document.title = `${name.replace(/\.toml$/, '')} – motesim`;
-    if (where === 'example') keepInAddress(null);
-  });
-  page.reactions.left.push(() => { if (!isLeaving) keepSession(page.web.history); });
+  page.reactions.opened.push(({name}) => { document.title = `${name.replace(/\.toml$/, '')} – motesim`; });
+  if (session) return openAgain(session);
   const opened = await textToOpen().catch(() => undefined);
-  if (opened) await open({where: '', ...opened}, {intro: ORIGINS[opened.from], session: opened.session});
-  else await openExample(first);
+  const saved = opened?.from === 'draft' ? '' : opened?.text;
+  if (opened) await open({where: '', ...opened}, {intro: ORIGINS[opened.from], saved}); else await openExample(first);
   if (opened === undefined) say('The link is broken: no text can be read from it. This is the first example.', 'bad');
   if (opened?.from === 'link' && page.panes.length) openAsAddressed();
 }
 
 // (another link, or a step back to one: the address of the page itself stays the same, so nothing is loaded)
-window.addEventListener('hashchange', () => {
-  isLeaving = true;
-  location.reload();
-});
+window.addEventListener('hashchange', () => location.reload());
 window.motesim = page;
 start().catch(fault => {
   byId('said').textContent = `This page can't run here: ${fault.message}`;

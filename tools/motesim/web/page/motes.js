@@ -29,25 +29,21 @@ export function restoreMotes() {
 
 /** What a map that can be changed does with its motes. */
 const groundEdits = {
-  hold(x, y) {
-    const [map] = maps;
-    return ground.adding || !map.run.places ? -1 : map.moteNear(x, y);
-  },
+  hold: (x, y) => ground.adding ? -1 : maps[0].moteNear(x, y),
 
-  /** Moves the mote with the pointer, to the rows and columns of the others unless it `isFree`, and shows who hears it
-      there. */
-  drag(mote, x, y, isFree) {
+  /** Moves the mote with the pointer, and shows who hears it there. */
+  drag(mote, x, y) {
     const [map] = maps, {run} = map;
     ground.held ||= {mote, place: run.places[mote]};
     [map.xs[mote], map.ys[mote]] = map.shownAt(x, y);
-    run.places[mote] = isFree ? map.placeAt(x, y) : map.snappedAt(x, y, mote);
+    run.places[mote] = map.placeAt(x, y);
     findHearers(run);
     sayOnMap(`Mote ${mote} to ${run.places[mote].join(', ')}`);
     map.redraw();
   },
 
-  drop(mote, x, y, isFree) {
-    this.drag(mote, x, y, isFree);
+  drop(mote, x, y) {
+    this.drag(mote, x, y);
     const [toX, toY] = maps[0].run.places[mote];
     page.edit({what: 'move', mote, x: toX, y: toY});
   },
@@ -101,8 +97,8 @@ function setAdding(isAdding) {
 
 /** Shows the link of a mote after the one that is shown. */
 function showNextWay(run, mote) {
-  const hearers = run.hearers[mote], {way} = ground, place = way && way[0] === mote ? hearers.indexOf(way[1]) : -1;
-  const other = hearers[(place + 1) % hearers.length];
+  const hearers = run.hearers[mote], [from, to] = ground.way || [];
+  const other = hearers[((from === mote ? hearers.indexOf(to) : -1) + 1) % hearers.length];
   showWay(hearers.length ? [mote, other] : null);
   sayOnMap(hearers.length ? linkInWords(run, mote, other) : `Mote ${mote} has no link.`);
 }
@@ -141,8 +137,8 @@ export function renewMotes() {
   const [map] = maps, {run} = map, {way, chooses} = ground;
   const typing = byId('way').contains(document.activeElement) &&
     /** @type {HTMLElement} */ (document.activeElement).dataset.way;
-  map.edits = run.places ? groundEdits : null;
-  map.canvas.tabIndex = map.edits ? 0 : -1;
+  map.edits = groundEdits;
+  map.canvas.tabIndex = 0;
   map.canvas.setAttribute('role', 'application');
   map.canvas.setAttribute('aria-label', MAP_KEYS);
   Object.assign(ground, {held: null, chooses: false});

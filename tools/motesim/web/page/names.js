@@ -19,7 +19,6 @@ export class Names {
   chosen = 0;
   begin = '';
 
-  /** @param {import('./pad.js').Pad} pad @param {any} words */
   constructor(pad, words) {
     const {area} = this.pad = pad;
     area.addEventListener('input', event => this.show(
@@ -38,7 +37,6 @@ export class Names {
       it !== this.begin).slice(0, MOST);
   }
 
-  /** Lists names below the caret, of which one is chosen. */
   show(found, chosen = 0) {
     const {area, high} = this.pad, box = byId('names');
     Object.assign(this, {found, chosen});

@@ -4,34 +4,32 @@ import {Refused, page} from '../../timeline/page/stage.js';
 
 const {web} = page;
 
-/** Shows a sentence, with those of its buttons that belong to it, and others: pairs of a name and a function.
- * @param {string} words @param {string[]} buttons @param {[string, () => void][]} offers */
-export function say(words, is = '', buttons = [], offers = []) {
+/** Shows a sentence with its buttons: the name of each, what it does, and what it is called. */
+export function say(words, is = '', offers = []) {
   byId('said').textContent = words;
   byId('sentence').dataset.is = is;
-  for (const id of ['try', 'show', 'revert']) byId(id).hidden = !buttons.includes(id);
-  byId('offers').replaceChildren(...offers.map(([name, does]) => makeButton(name, does)));
+  // (the buttons that are there stay, with the keyboard's focus)
+  if (web.outcome.buttons === offers) return;
+  web.outcome.buttons = offers;
+  byId('offers').replaceChildren(...offers.map(([name, does, id = '']) => makeButton(name, does, {id})));
 }
 
 /** Says what a run showed, and before that what the checks say of it. */
 export function sayOutcome() {
-  const {words, is, buttons, offers} = web.outcome, {checks} = page;
-  say([checks.words, checks.words && is === 'same' ? '' : words].filter(Boolean).join(' '), checks.is || is, buttons,
-    offers);
+  const {words, is, offers} = web.outcome, {checks} = page;
+  say([checks.words, checks.words && is === 'same' ? '' : words].filter(Boolean).join(' '), checks.is || is, offers);
 }
 
-/** Keeps what a run showed, and says it.
- * @param {string} words @param {string[]} buttons @param {[string, () => void][]} offers */
-export function setOutcome(words, is = '', buttons = [], offers = []) {
-  web.outcome = {words, is, buttons, offers};
+/** Keeps what a run showed, and says it. */
+export function setOutcome(words, is = '', offers = []) {
+  Object.assign(web.outcome, {words, is, offers});
   sayOutcome();
 }
 
 /** The button that goes back, if there is a text before. */
-export const reverting = () => web.history.before ? ['revert'] : [];
+export const reverting = () => web.history.before ? [['Undo', () => byId('undo').click(), 'revert']] : [];
 
-/** Does something that may be refused: then says why, and returns null.
- * @param {() => any} work */
+/** Does something that may be refused: then says why, and returns null. */
 export async function attempt(work) {
   try {
     return await work();

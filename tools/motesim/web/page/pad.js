@@ -32,8 +32,7 @@ export class Pad {
   place = /** @type {number[]|null} */ (null);
   row = -1;
 
-  /** `changed` is called with the text after each change by the reader; `words` are those of the notation.
-   * @param {(text: string) => void} changed @param {any} words */
+  /** `changed` is called with the text after each change by the reader; `words` are those of the notation. */
   constructor(changed, words) {
     const {area} = this;
     this.tokens = rowTokens(words);
@@ -65,7 +64,6 @@ export class Pad {
     requestAnimationFrame(() => this.draw());
   }
 
-  /** The height of a row. */
   get high() { return parseFloat(getComputedStyle(this.area).lineHeight) || 19.5; }
 
   draw() {
@@ -89,18 +87,15 @@ export class Pad {
     return rows;
   }
 
-  /** The places that are marked, with the names of their marks. */
   marks() {
-    const {area: {value, selectionStart, selectionEnd}, place} = this, found = place ? [{place, name: 'fault-mark'}] :
-      [];
+    const {area: {value, selectionStart, selectionEnd}, place} = this;
     const brackets = selectionStart === selectionEnd ? bracketsAt(value, selectionStart) : [];
-    return [...found, ...brackets.map(at => {
+    return [...place ? [{place, name: 'fault-mark'}] : [], ...brackets.map(at => {
       const [row, column] = lineAndColumn(value, at);
       return {place: [row, column, column + 1], name: 'bracket-mark'};
     })];
   }
 
-  /** @param {number} row @param {[string, string|null][]} pieces @param {{place: number[], name: string}[]} marks */
   rowOf(row, pieces, marks) {
     const isFault = this.place?.[0] === row;
     return element('div', pieces.length ? '' : '\n', [...marks.map(it => this.markOf(it)),
@@ -133,7 +128,6 @@ export class Pad {
     area.scrollTop = Math.min(Math.max(area.scrollTop, top + high + MARGIN - area.clientHeight), top - MARGIN);
   }
 
-  /** Selects a stretch of a row. */
   select(row, from, to) {
     const at = offsetOf(this.area.value, [row, 0]);
     this.area.setSelectionRange(at + from, at + to);

@@ -23,9 +23,7 @@ function found(pattern, row, at) {
 export const firstState = (quote = '') => ({quote, before: ''});
 
 /** A function that returns the pieces of a row with their colours, and makes the state that after the row. `colours`
- * has the words of each colour, `naming` those in front of a name.
- * @param {{colours: Record<string, string[]>, naming: string[]}} words
- * @returns {(row: string, state: State) => [string, string|null][]} */
+ * has the words of each colour, `naming` those in front of a name. */
 export function rowTokens({colours, naming}) {
   const colourOf = new Map(Object.entries(colours).flatMap(([colour, words]) => words.map(word => [word, colour])));
 

@@ -51,11 +51,12 @@ class Reader {
   document() {
     let base = [], table = this.tables, opened = this.note([], [0, 0], null);
     for (this.gaps(); this.at < this.text.length; this.gaps()) {
-      const from = this.at, end = this.pass('[[') ? ']]' : this.pass('[') ? ']' : '';
-      if (end) {
+      const from = this.at, sign = this.take(/\[\[?/y)?.[0];
+      if (sign) {
         const names = this.key();
-        if (!this.pass(end)) this.fail();
-        [table, base] = this.opened(names, end === ']]');
+        if (!this.pass(']'.repeat(sign.length))) this.fail();
+        base = [];
+        table = this.inner(this.tables, names, base, sign.length > 1);
         opened = this.note(base, [from, this.at], null);
       } else this.pair(table, base);
       opened.end = this.at;
@@ -64,27 +65,21 @@ class Reader {
     return this;
   }
 
-  /** The table of a name in another, which is made if it isn't there; of an array the last one. Lengthens the path. */
-  inner(table, name, path) {
-    path.push(name);
-    if (!Object.hasOwn(table, name)) table[name] = {};
-    const found = table[name];
-    if (!Array.isArray(found)) return typeof found === 'object' ? found : this.fail();
-    path.push(found.length - 1);
-    return found[found.length - 1];
-  }
-
-  /** The table that a header opens, and its path. */
-  opened(names, isMember) {
-    const path = [], last = isMember ? names.pop() : '';
-    let table = this.tables;
-    for (const name of names) table = this.inner(table, name, path);
-    if (!isMember) return [table, path];
-    if (!Object.hasOwn(table, last)) table[last] = [];
-    const list = table[last];
-    if (!Array.isArray(list)) this.fail();
-    path.push(last, list.push({}) - 1);
-    return [list[list.length - 1], path];
+  /** The table of names in another one, which is made if it isn't there: of an array the last one, or at the last name
+   * a new one (`isMember`). Lengthens the path. */
+  inner(table, names, path, isMember = false) {
+    for (const [i, name] of names.entries()) {
+      const isNew = isMember && i === names.length - 1;
+      if (!Object.hasOwn(table, name)) table[name] = isNew ? [] : {};
+      table = table[name];
+      path.push(name);
+      if (isNew && Array.isArray(table)) table.push({});
+      else if (isNew || typeof table !== 'object') this.fail();
+      if (!Array.isArray(table)) continue;
+      path.push(table.length - 1);
+      table = table[table.length - 1];
+    }
+    return table;
   }
 
   key() {
@@ -101,7 +96,7 @@ class Reader {
   pair(table, base) {
     const from = this.at, names = this.key(), behind = this.at, path = [...base], last = names.pop();
     if (!this.take(/=[ \t]*/y)) this.fail();
-    for (const name of names) table = this.inner(table, name, path);
+    table = this.inner(table, names, path);
     if (Object.hasOwn(table, last)) this.fail();
     const begin = this.at;
     path.push(last);
@@ -147,34 +142,33 @@ class Reader {
   }
 }
 
-/** A text with its values (`tables`), and the `place` of the item at a path. @param {string} text */
+/** A text with its values (`tables`), and the `place` of the item at a path. */
 export function readToml(text) {
   const {tables, places} = new Reader(text).document();
   return {tables, place: (...path) => places.get(JSON.stringify(path))};
 }
 
-/** The tables of a text; none if it isn't TOML. */
-export function tablesOf(text) {
+/** The same of a text that may be no TOML, which has no tables. */
+function readAny(text) {
   try {
-    return readToml(text).tables;
+    return readToml(text);
   } catch {
-    return {};
+    return {tables: {}, place: () => null};
   }
 }
 
-/** The programs with their stretches in a text, each between its quotes; none if it isn't TOML.
- * @param {string} text @returns {{name: string, begin: number, end: number}[]} */
+export const tablesOf = text => readAny(text).tables;
+
+/** The programs with their stretches in a text, each between its quotes; none if it isn't TOML. */
 export function programsOf(text) {
-  const names = Object.keys(tablesOf(text).programs || {}), {place} = names.length ? readToml(text) :
-    {place: () => null};
-  return names.flatMap(name => {
+  const {tables, place} = readAny(text);
+  return Object.keys(tables.programs || {}).flatMap(name => {
     const [from, to] = place('programs', name)?.value || [0, 0];
-    const long = /^('''|""")(\r?\n)?/.exec(text.slice(from, from + 5)), quotes = long ? 3 : 1;
-    return to ? [{name, begin: from + (long ? long[0].length : quotes), end: to - quotes}] : [];
+    const [quotes] = /^(?:'''\r?\n?|"""\r?\n?|["'])|^/.exec(text.slice(from, to)) || [''];
+    return quotes ? [{name, begin: from + quotes.length, end: to - (quotes.length > 1 ? 3 : 1)}] : [];
   });
 }
 
-/** The line and the column of an offset, from 0. @returns {[number, number]} */
 export function lineAndColumn(text, offset) {
   const before = text.slice(0, offset).split('\n');
   return [before.length - 1, before[before.length - 1].length];

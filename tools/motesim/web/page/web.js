@@ -14,6 +14,7 @@ import {difference, drawDifference, effectInWords, goToDifference} from './diff.
 import {edit} from './edits.js';
 import {drawFault, showFault} from './errors.js';
 import {beginMotes, renewMotes, restoreMotes, sayOnMap} from './motes.js';
+import {keepDraft, keepSession} from './keeping.js';
 import {attempt, reverting, say, setOutcome} from './outcome.js';
 import {Pad} from './pad.js';
 import {lineAndColumn, programsOf} from './toml.js';
@@ -25,15 +26,12 @@ const PAUSE = 150, CALM = 700, LONG = 500, KEEP = 1000;
 const {web} = page;
 const react = (name, ...words) => page.reactions[name].forEach(does => does(...words));
 
-/** Says what the text is about, and where it came from; and offers the change of an example that is as it was opened. */
+/** Says what the text is about, and where it came from; and offers the change of an example that is as it was. */
 function sayIntro() {
   const {intro, history, document, saved} = web, example = history.text === saved ? web.example : null;
-  if (example) byId('try').textContent = example.try;
   setOutcome(example?.about || [intro, firstSentence(history.text)].filter(Boolean).join(' ') ||
-    `This is ${document.name}.`, '', example?.replace ? ['try'] : []);
+    `This is ${document.name}.`, '', example?.replace ? [[example.try, makeTry, 'try']] : []);
 }
-
-// The text.
 
 /** Shows the text; a new one from its first program on. */
 function showText(isNew = false) {
@@ -89,39 +87,46 @@ function keepNow() {
   if (!web.keepTimer) return;
   clearTimeout(web.keepTimer);
   web.keepTimer = 0;
-  react('kept', web.history.text);
+  keepDraft(web.history.text);
 }
 
 /** Opens a text, as a step of the history: that of an example, or one with an `intro`, which says where it came from.
- * `against` is an earlier text: the page shows what has changed since. `session` has the steps of an earlier visit.
+ * `against` is an earlier text: the page shows what has changed since. `saved` is the text that needn't be kept.
  * @param {any} document its name, its text, and where it is */
 export async function open(document, {example = /** @type {any} */ (null), intro = '', against = null,
-  session = /** @type {any} */ (null)} = {}) {
+  saved = document.text} = {}) {
   keepNow();
-  const of = {document: {opened: Date.now(), ...document}, example, intro, saved: document.text};
-  if (session) Object.assign(web.history, session); else web.history.take(against ?? document.text, 'opened', of);
-  Object.assign(web, web.history.step.of, {fresh: true});
-  showText(true);
-  await runNow();
-  react('opened', web.document, Boolean(session));
+  web.history.take(against ?? document.text, 'opened', {document: {opened: Date.now(), ...document}, example, intro,
+    saved});
+  await showOpened();
   if (against === null) return;
   change(document.text, 'edit');
   await runNow();
   goToDifference();
 }
 
+/** Opens the steps of an earlier visit. */
+export function openAgain(session) {
+  Object.assign(web.history, session);
+  return showOpened(true);
+}
+
+async function showOpened(isAgain = false) {
+  Object.assign(web, web.history.step.of, {fresh: true});
+  showText(true);
+  await runNow();
+  react('opened', web.document, isAgain);
+}
+
 function makeTry() {
   const {history, example, pad} = web, pieces = Object.entries(example.replace);
   const text = pieces.reduce((made, [old, piece]) => made.split(old).join(piece), history.text);
-  byId('try').classList.remove('breathes');
   if (text === history.text) {
     return say('The text no longer has what this would change. Undo, or open the example again.');
   }
   change(text, 'try');
   pad.lightRow(lineAndColumn(text, text.indexOf(pieces[0][1]))[0]);
 }
-
-// Runs.
 
 /** Runs the text, and shows its run, its error, or its limit. */
 export async function runNow() {
@@ -143,7 +148,6 @@ export async function runNow() {
   if (!page.panes.length) byId('about').textContent = 'No run yet';
 }
 
-/** Says that a run was stopped. */
 function showLimit({limit}) {
   drawFault();
   say(`${limit} Does a loop repeat without waiting, or is the net too large?`, 'bad', reverting());
@@ -164,13 +168,19 @@ async function showRun({run, number, took}, step) {
   const isChanged = found && before.text !== step.text;
   if (web.fresh) beginShow();
   if (isChanged) {
-    setOutcome(effectInWords(run, before.run, found), found.same ? 'same' : 'differs', [found.first && 'show', 'revert']);
-    // (the button that was pressed is hidden now)
+    setOutcome(effectInWords(run, before.run, found), found.same ? 'same' : 'differs',
+      [...found.first ? [['Show', showDifference, 'show']] : [], ...reverting()]);
+    // (the button that was pressed is gone now)
     if (document.activeElement === document.body && step.how === 'try') byId('revert').focus();
   } else sayIntro();
   drawAll();
-  Object.assign(web, {shown: step.text, took});
+  web.shown = step.text;
   react('ran', step.text, number);
+}
+
+function showDifference() {
+  stopPlaying();
+  goToDifference();
 }
 
 /** Shows an opened text from its beginning; a wave runs over the net of an example. */
@@ -180,28 +190,17 @@ function beginShow() {
   whole();
   selectNothing();
   stopPlaying();
-  byId('try').classList.toggle('breathes', Boolean(example));
   if (!example?.speed) return setNow(0);
   byId('speed').value = example.speed;
   setNow(isStill ? example.still : example.from);
   if (!isStill) startPlaying();
 }
 
-// The page.
-
 function beginButtons() {
   onClick({
-    undo: () => go(-1), redo: () => go(1), try: makeTry, stop: () => page.backend.stop(),
+    undo: () => go(-1), redo: () => go(1), stop: () => page.backend.stop(),
     share: () => showSharing(web.history.text, web.document.name),
     help: () => byId('reference').showModal(),
-    revert() {
-      go(-1);
-      byId('try').focus();
-    },
-    show() {
-      stopPlaying();
-      goToDifference();
-    },
     'fault-place': () => web.pad.select(...web.fault.place),
     'fault-correct': () => change(web.fault.corrected, 'edit'),
   });
@@ -219,8 +218,7 @@ function beginButtons() {
 }
 
 /** Begins the page with its examples, of which some have cards, the words of the notation and the rules of
- * corrections. Returns the examples, those with a card first.
- * @param {import('../../timeline/page/stage.js').Backend} backend */
+ * corrections. Returns the examples, those with a card first. */
 export function begin(backend, {cards, texts, words, corrections: {keys}}) {
   const others = Object.keys(texts).filter(file => !cards.some(it => it.file === file)).map(file => ({file}));
   const examples = [...cards, ...others].map(it => ({...it, text: texts[it.file]}));
@@ -232,12 +230,14 @@ export function begin(backend, {cards, texts, words, corrections: {keys}}) {
   page.overlays.push(drawDifference);
   page.edit = changeByMap;
   beginMotes();
-  beginGallery(examples, openExample, draft => open({where: '', ...draft}, {intro: 'This is a text of yours.'}));
+  beginGallery(examples, openExample, draft =>
+    open({where: '', ...draft}, {intro: 'This is a text of yours.', saved: ''}));
   beginOpening((text, name) => open({where: '', name, text}, {intro: `This is ${name}.`}), words => say(words, 'bad'));
   beginDrawer();
+  const address = location.href;
   window.addEventListener('pagehide', () => {
     keepNow();
-    react('left');
+    keepSession(web.history, address);
   });
   return examples;
 }

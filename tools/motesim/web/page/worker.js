@@ -29,7 +29,6 @@ function answerTo(module, text, isReport) {
   }
 }
 
-/** @param {Uint8Array[]} parts */
 function textOf(parts) {
   const decoder = new TextDecoder();
   return parts.map(it => decoder.decode(it, {stream: true})).join('') + decoder.decode();
