@@ -10,7 +10,7 @@ from motesim.report.run import Run
 from motesim.scenario import Scenario
 from motesim.summary.columns import FLOWS, LINKS, MOTES
 from motesim.summary.counts import summary
-from motesim.summary.flows import flow_rows, read_flow
+from motesim.summary.flows import flow_rows
 from sessions import TABLES, Table
 
 TEXTS = Table(TABLES / 'summary.toml').texts
@@ -26,10 +26,6 @@ def test_the_tables_have_the_columns_that_the_help_and_the_page_describe() -> No
     for rows, columns in (([*motes, net], ['mote', 'program', *MOTES]), (links, [*LINKS]),
                           (flow_rows(report, None, 'print hearer'), [*FLOWS])):
         assert rows and all([*row] == columns for row in rows)
-
-
-def test_values_of_a_flow_are_those_in_both_ranges() -> None:
-    assert [str(it) for it in read_flow('print node 5 to 9 -> recv 9 to 70000')] == ['print node 9', 'recv 9']
 
 
 def test_packets_of_one_moment_have_a_warning() -> None:
