@@ -45,3 +45,9 @@ class Errors(InPage):
         self.wait('!by("fault").hidden')
         row = FLOODING[:FLOODING.index('end = 160')].count('\n') + 1
         self.assertIn('in line %d' % row, self.said())
+
+    def test_a_key_that_a_table_lacks_is_named(self) -> None:
+        self.open()
+        for row, words in ('end = 160\n', '`end` is missing.'), ('per = 100\n', '`per` is missing.'):
+            self.put(FLOODING.replace(row, ''))
+            self.wait('by("fault").textContent.includes(%s)' % json.dumps(words))
