@@ -110,17 +110,6 @@ class Pages(InBrowser):
         found: list[dict[str, Any]] = self.value(text_of('drawn.js.txt') % before)
         return found
 
-    def test_a_run_whose_lines_are_all_at_its_beginning_opens_there(self) -> None:
-        text = (TOP / 'examples/small_network.toml').read_text()
-        report, last = small_network().report, 20
-        for end, is_whole in (100 * last, False), (2 * last, True):
-            net = Scenario.parse(re.sub('(?m)^end = .*$', 'end = %d' % end, text).encode())
-            self.open(Run('small', report, net))
-            begin, behind = self.value('[m.time.begin, m.time.begin + m.time.width / m.time.scale]')
-            self.assertEqual((begin <= 0, behind > last, behind > end), (True, True, is_whole))
-            self.key('0')
-            self.assertGreater(self.value('m.time.begin + m.time.width / m.time.scale'), end)
-
     def test_wheel_and_keys_zoom_and_pan(self) -> None:
         self.open(small_network())
         scale, under, begin, lane = 'm.time.scale', 'pane.moment(500)', 'm.time.begin', 'pane.lane'
@@ -167,6 +156,16 @@ class Pages(InBrowser):
             self.shows('details', 'Event 2 of mote 0: %s 1' % event, 'still waiting when the run ends')
             silent = 'Array.from(run.silent.keys()).filter(i => run.silent[i]).map(i => run.text(i))'
             self.assertEqual(self.value(silent), ['4 take 1 a'])
+
+    def test_a_mote_that_boots_again_has_lost_its_events(self) -> None:
+        self.open_report('mote 0 p\n0 start a\n0 post 0 a msg 1\n5 boots\n5 start a\nmedium\nleft 0\n')
+        self.click(3)
+        self.shows('details', 'Event 0 of mote 0: msg 1', 'still waiting when the mote went off')
+        self.value('find("boots")')
+        self.assertEqual(self.selected(), '5 boots')
+        self.value('m.askWhy(pane, 3)')
+        self.wait('by("why-chain").textContent.includes("a fault, after which the mote boots")')
+        self.shows('why-chain', '5 start a', 'mote 0: the mote boots', '5 boots')
 
     def test_a_run_is_played_and_a_search_finds_lines(self) -> None:
         self.open(small_network())

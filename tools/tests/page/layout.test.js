@@ -20,7 +20,7 @@ beforeEach(async () => {
 
 test('fitted lanes are all in view, one below the other', () => {
   layout.fit();
-  assert.deepEqual(layout.lanesInView(), [0, run.begins.length]);
+  assert.deepEqual(layout.motesInView, layout.order);
   layout.order.forEach((mote, place) => {
     assert.equal(layout.moteAt(layout.laneTop(mote) + layout.lane / 2), mote);
     if (place) assert.ok(layout.laneTop(mote) > layout.laneTop(layout.order[place - 1]));

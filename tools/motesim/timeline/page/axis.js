@@ -39,20 +39,20 @@ export function drawGrid(pane) {
 }
 
 /** The bands behind the lanes, which tell neighbouring lanes apart. */
-export function drawBands(pane, from, to) {
+export function drawBands(pane, motes) {
   const {context: c, lane, gutter, width} = pane;
-  for (let place = from; lane >= 5 && place < to; place++) {
-    const y = pane.laneTopOfPlace(place);
-    if (place % 2) box(c, 'band', gutter, y, width, lane);
+  for (const mote of lane >= 5 ? motes : []) {
+    const y = pane.laneTop(mote);
+    if (pane.place[mote] % 2) box(c, 'band', gutter, y, width, lane);
     if (lane >= SMALL_LANE) box(c, 'grid', gutter, Math.round(y + lane) - 1, width, 1);
   }
 }
 
-export function drawNames(pane, from, to) {
+export function drawNames(pane, motes) {
   const {run, context: c, lane, gutter} = pane, shown = page.chosen.pane === pane ? page.chosen.mote : -1;
   const step = lane >= 11 ? 1 : niceStep(13 / lane), hasPrograms = run.programs.length > 1 && lane >= 30;
-  for (let place = from; place < to; place++) {
-    const mote = pane.order[place], y = pane.laneTopOfPlace(place), isChosen = mote === shown;
+  for (const mote of motes) {
+    const y = pane.laneTop(mote), isChosen = mote === shown;
     // (the name of the chosen mote is there alone)
     if (!isChosen && (mote % step || shown >= 0 && Math.abs(pane.laneTop(shown) - y) < 11)) continue;
     if (isChosen) box(c, 'halo', 0, y, gutter - 1, Math.max(2, lane));

@@ -1,5 +1,5 @@
 // The causes of a run's lines, and the chains that they make.
-import {COLLIDE, DROP, LOST, POST, RECV, TAKE, isCall} from './data.js';
+import {BOOTS, COLLIDE, DROP, LOST, POST, RECV, START, TAKE, isCall} from './data.js';
 import {count} from './dom.js';
 import {unpacked} from './packing.js';
 
@@ -20,15 +20,19 @@ const isArrival = kind => kind === RECV || kind === LOST || kind === COLLIDE;
 /** The line that led to a line, or -1, and the reason, as far as the report shows them: what set a timer isn't there.
  * @returns {[number, string]} */
 function shownCauseOf(run, line, mote) {
-  const {kind, p, x} = run, copy = run.handLine.indexOf(line), [from] = run.turn(line, mote);
+  const {kind, p, x, at} = run, copy = run.handLine.indexOf(line), [from] = run.turn(line, mote);
+  const boots = kind.lastIndexOf(BOOTS, line);
   if (isArrival(kind[line])) return [run.sendLine[run.packetOf(p[line], x[line])] ?? -1, ''];
   if (kind[line] === TAKE || kind[line] === DROP) return [run.posts[line], ''];
   if (copy >= 0) return [run.copyLine[copy], ''];
   if (kind[line] === POST && run.e[line] === run.timerEvent) return [-1, 'a timer had come to its end'];
+  if (kind[line] === BOOTS) return [-1, 'a fault, after which the mote boots'];
+  if (kind[line] === START && boots >= from) return [boots, 'the mote boots'];
+  if (kind[line] === START && !at[line]) return [-1, 'the start'];
   for (let before = line - 1; before >= from; before--) {
     if (isCall(kind[before])) return [before, `written while ${run.process(p[before])} ran`];
   }
-  return [-1, run.at[line] ? 'something that the report does not show, such as a callback' : 'the start'];
+  return [-1, at[line] ? 'something that the report does not show, such as a callback' : 'the start'];
 }
 
 /** A hop of a chain: a line with the reason, and the wait since its cause. `line` is -1 at a head. */

@@ -1,10 +1,8 @@
 // Elements of the page, and numbers with their nouns.
 import {page} from './stage.js';
 
-const FORM = new Intl.NumberFormat('en');
-
 /** A number with commas between thousands. */
-export const digits = number => FORM.format(number);
+export const digits = number => number.toLocaleString('en');
 
 /** A number with its noun, in the plural unless it is 1: `3 packets`, `1 copy`, `2 copies`. */
 export function count(number, noun) {
@@ -28,11 +26,6 @@ export function element(name, text = '', inside = [], its = {}) {
 
 /** A list of items: `ul` or `ol`. */
 export const list = (name, items) => element(name, '', items.map(item => element('li', '', [item])));
-
-export function table(headings, rows) {
-  const head = element('tr', '', headings.map(name => element('th', name)));
-  return element('table', '', [element('thead', '', [head]), element('tbody', '', rows)]);
-}
 
 export const makeButton = (name, act, its = {}) =>
   element('button', name, [], {type: 'button', onclick: act, ...its});
@@ -70,13 +63,10 @@ export function withPlaces(text) {
 }
 
 /** A line of the report as a button: its place, its text, and a remark. */
-export function lineButton(where, text, remark, isCurrent, act) {
-  const button = makeButton('', act, {className: 'line'});
-  button.append(element('span', where, [], {className: 'where'}), element('code', '', withPlaces(text)));
-  if (remark) button.append(element('span', '', withPlaces(remark), {className: 'what'}));
-  if (isCurrent) button.setAttribute('aria-current', 'true');
-  return button;
-}
+export const lineButton = (where, text, remark, isCurrent, act) => element('button', '', [
+  element('span', where, [], {className: 'where'}), element('code', '', withPlaces(text)),
+  ...remark ? [element('span', '', withPlaces(remark), {className: 'what'})] : [],
+], {type: 'button', className: 'line', onclick: act, ...isCurrent && {'aria-current': 'true'}});
 
 /** The browser's storage, or that of the tab (`session`), which may refuse. @param {(storage: Storage) => any} work */
 export function stored(work, where = 'local') {

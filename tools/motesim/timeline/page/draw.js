@@ -8,15 +8,12 @@ import {momentsInWords} from './time.js';
 /** Draws parts before the browser shows the next picture, however often it is called. */
 function want(...parts) {
   if (!page.wanted.size) requestAnimationFrame(draw);
-  for (const part of parts) page.wanted.add(part);
+  parts.forEach(part => page.wanted.add(part));
 }
 
 export const redraw = () => want('lanes', 'maps');
-
-/** Draws another stretch of time, or of the lanes. */
 export const redrawLanes = () => want('lanes');
-
-export const redrawNow = () => want('maps');
+export const redrawMaps = () => want('maps');
 
 /** Draws everything at once. */
 export function drawAll() {
@@ -34,14 +31,14 @@ function draw() {
     said.textContent = said.title = [momentsInWords(), ...words].join(' ');
   }
   panes.forEach(moveCursor);
-  if (parts.includes('maps')) for (const map of maps) map.draw();
-  for (const pane of panes) for (const follow of page.followers) follow(pane);
+  if (parts.includes('maps')) maps.forEach(map => map.draw());
+  for (const pane of panes) page.followers.forEach(follow => follow(pane));
 }
 
 /** The items in view of a pane, and how many of them aren't drawn. */
-function drawnInWords({drawn, arrows, lanes: [from, to], run, number}, isOneOfTwo) {
-  const motes = run.begins.length, where = !isOneOfTwo ? '' : number ? 'Below: ' : 'Above: ';
-  const which = to - from >= motes ? `All ${count(motes, 'lane')}` : `${to - from} of ${count(motes, 'lane')}`;
+function drawnInWords({drawn, arrows, run}, isOneOfTwo) {
+  const motes = run.begins.length, where = isOneOfTwo ? `${run.name}: ` : '';
+  const which = drawn.lanes < motes ? `${drawn.lanes} of ${count(motes, 'lane')}` : `All ${count(motes, 'lane')}`;
   const left = {'Lines found, without rings': drawn.rings, 'Marks not drawn': drawn.thinned + drawn.low,
     'Values not drawn': drawn.unlabelled, 'Copies without arrows': drawn.copies - arrows.length};
   return [`${where}${which}, ${count(drawn.lines, 'line')} of traces.`,

@@ -5,7 +5,7 @@ export const colours = {};
 // (pictures of forms in these colours)
 const stamps = new Map();
 
-/** Reads the colours from the style: those of the reader's system, or of print. */
+/** Reads the colours from the style, those of the reader's system or of print, and draws the legend in them. */
 export function readColours() {
   const style = getComputedStyle(document.documentElement);
   for (const name of ['paper', 'panel', 'ink', 'quiet', 'grid', 'edge', 'band', 'send', 'recv', 'trouble', 'print',
@@ -13,6 +13,7 @@ export function readColours() {
     colours[name] = style.getPropertyValue('--' + name).trim();
   }
   stamps.clear();
+  drawLegend();
 }
 
 export function path(c, points, close = false) {
@@ -35,10 +36,8 @@ export function fill(c, colour) {
 }
 
 /** Sets the font of texts, and where they are at a point. */
-export function setFont(c, size, align = 'left', baseline = 'middle', weight = '') {
-  Object.assign(c, {font: `${weight} ${size}px system-ui, "DejaVu Sans", sans-serif`, textAlign: align,
-    textBaseline: baseline});
-}
+export const setFont = (c, size, textAlign = 'left', textBaseline = 'middle', weight = '') =>
+  Object.assign(c, {font: `${weight} ${size}px system-ui, "DejaVu Sans", sans-serif`, textAlign, textBaseline});
 
 /** Writes a text in a colour, at most so wide. @param {number=} most */
 export function write(c, text, x, y, colour, most) {
@@ -53,6 +52,15 @@ export function drawPath(c, points, colour, width, alpha = 1, dash = /** @type {
   path(c, points);
   stroke(c, colour, width);
   c.restore();
+}
+
+/** Makes a picture so large, and returns the dots of a pixel. */
+export function fitCanvas(c, width, height) {
+  const dots = window.devicePixelRatio || 1;
+  Object.assign(c.canvas, {width: Math.round(width * dots), height: Math.round(height * dots)});
+  c.canvas.style.height = `${height}px`;
+  c.setTransform(dots, 0, 0, dots, 0, 0);
+  return dots;
 }
 
 /** Fills a rectangle with a colour. */
@@ -133,18 +141,16 @@ const ARROWS = [{end: 'head', colour: 'recv'}, {end: 'full'}, {end: 'deaf'}, {da
 
 /** The head of an arrow. */
 export function head(c, ends, r, colour, filled) {
-  const [x0, y0, x1, y1] = ends;
-  const a = Math.atan2(y1 - y0, x1 - x0);
-  path(c, [x1 - Math.cos(a - 0.45) * r, y1 - Math.sin(a - 0.45) * r, x1, y1, x1 - Math.cos(a + 0.45) * r,
-    y1 - Math.sin(a + 0.45) * r], filled);
+  const [x0, y0, x1, y1] = ends, angle = Math.atan2(y1 - y0, x1 - x0);
+  const [from, to] = [-0.45, 0.45].map(it => [x1 - Math.cos(angle + it) * r, y1 - Math.sin(angle + it) * r]);
+  path(c, [...from, x1, y1, ...to], filled);
   if (filled) fill(c, colour); else stroke(c, colour, 1.4);
 }
 
 /** Draws an arrow. That of a copy lost on the way ends before it arrives, with a cross. */
 export function drawArrow(c, places, fate, width, size, alpha = 1) {
   const {dash = [], end, colour = 'trouble'} = ARROWS[fate], way = fate === MEDIUM ? 0.62 : 1;
-  const [x0, y0, x1, y1] = places;
-  const ends = [x0, y0, x0 + (x1 - x0) * way, y0 + (y1 - y0) * way];
+  const [x0, y0, x1, y1] = places, ends = [x0, y0, x0 + (x1 - x0) * way, y0 + (y1 - y0) * way];
   drawPath(c, ends, colour, width, alpha, dash);
   c.globalAlpha = alpha;
   if (end === 'head' || end === 'open') head(c, ends, size * 1.7, colour, end === 'head');
@@ -152,12 +158,10 @@ export function drawArrow(c, places, fate, width, size, alpha = 1) {
   c.globalAlpha = 1;
 }
 
-export function drawLegend() {
-  const dots = window.devicePixelRatio || 1;
+function drawLegend() {
   for (const canvas of /** @type {NodeListOf<HTMLCanvasElement>} */ (document.querySelectorAll('#forms canvas'))) {
     const {form, fate} = canvas.dataset, c = canvas.getContext('2d');
-    Object.assign(canvas, {width: 56 * dots, height: 20 * dots});
-    c.scale(dots, dots);
+    fitCanvas(c, 56, 20);
     if (fate) drawArrow(c, [5, 10, 47, 10], Number(fate), 1.4, 4.5); else drawForm(c, form, 28, 10, 5);
   }
 }

@@ -1,10 +1,9 @@
 // Facts that follow from a run's lines, computed once when it is opened: the fate of each copy, which lines belong
 // together, which motes hear each other, and what each island sends.
-import {BOOTS, COLLIDE, DEAF, DROP, FULL, HALT, LOST, POST, PRINT, RECV, SEND, START, TAKE} from './data.js';
+import {BOOTS, COLLIDE, DEAF, DROP, FULL, HALT, LOST, POST, PRINT, RECV, SEND, TAKE, isCall} from './data.js';
 
 export const FATE_WORDS = ['received and handed on', 'received, but the event queue was full',
-  'received, but the program has no receiver', 'overflowed: eight packets were waiting already',
-    'collided with others',
+  'received, but the program has no receiver', 'overflowed: eight packets were waiting already', 'collided with others',
   'lost on the way', 'arrived at a mote that had halted', 'would arrive after the end', 'received, but not handed on'];
 export const [HANDED, REFUSED, UNHEARD, RING, COLLIDED, MEDIUM, GONE, LEFT, RECEIVED] = FATE_WORDS.keys();
 const OF_ARRIVAL = {[RECV]: RECEIVED, [LOST]: RING, [COLLIDE]: COLLIDED};
@@ -17,22 +16,30 @@ export const breathe = () => new Promise(done => setTimeout(done));
 
 /** Adds to a run all that follows from its lines. */
 export async function indexRun(run) {
-  run.timerEvent = run.events.indexOf('timer');
-  run.packetEvent = run.events.indexOf('packet');
+  Object.assign(run, {
+    timerEvent: run.events.indexOf('timer'),
+    packetEvent: run.events.indexOf('packet'),
+    /** The moments at which anything happens; the prints of each mote, and the moment at which it halted. */
+    busy: new Uint8Array(run.end + 1),
+    prints: Array.from(run.begins, () => []),
+    haltAt: new Float64Array(run.begins.length).fill(Infinity),
+    /** The post of each post, take and drop. */
+    posts: new Int32Array(run.count).fill(-1),
+  });
   indexPackets(run);
-  indexEvents(run);
-  await breathe();
-  await followCopies(run);
+  for (const mote of run.begins.keys()) {
+    readTrace(run, mote);
+    if (mote % 100 === 99) await breathe();
+  }
   findHearers(run);
   findGroups(run);
   await breathe();
   findSilence(run);
-  sumUp(run);
 }
 
 /** Numbers the packets of each sender, finds the copies of each, and the fates of those without a line. */
 function indexPackets(run) {
-  const motes = run.begins.length, {packets, copies, packetSender, copyAfter} = run, sent = new Uint32Array(motes);
+  const {packets, copies, packetSender, packetAt, copyAfter} = run, sent = new Uint32Array(run.begins.length);
   run.packetNumber = Uint32Array.from(packetSender, sender => sent[sender]++);
   run.sentStart = sums(sent);
   run.copyStart = sums(run.copyCount);
@@ -41,12 +48,11 @@ function indexPackets(run) {
   run.copyLine = new Int32Array(copies).fill(-1);
   run.handLine = new Int32Array(copies).fill(-1);
   run.copyFate = new Uint8Array(copies);
-  run.longest = 1;
+  run.longest = copyAfter.reduce((most, it) => Math.max(most, it), 1);
   for (let k = 0; k < packets; k++) {
     run.sentPackets[run.sentStart[packetSender[k]] + run.packetNumber[k]] = k;
     for (let c = run.copyStart[k]; c < run.copyStart[k + 1]; c++) {
-      run.longest = Math.max(run.longest, copyAfter[c]);
-      run.copyFate[c] = !copyAfter[c] ? MEDIUM : run.packetAt[k] + copyAfter[c] > run.end ? LEFT : GONE;
+      run.copyFate[c] = !copyAfter[c] ? MEDIUM : packetAt[k] + copyAfter[c] > run.end ? LEFT : GONE;
     }
   }
 }
@@ -58,47 +64,34 @@ function sums(numbers) {
   return found;
 }
 
-/** Notes the post of each post, take and drop; a take and a drop have the event and the word of theirs. In each life
- * of a mote, posts are numbered from 0. */
-function indexEvents(run) {
-  const {kind, x, e, w, traceStart} = run;
-  run.posts = new Int32Array(run.count).fill(-1);
-  for (let m = 0; m < run.begins.length; m++) {
-    let posts = [];
-    for (let i = traceStart[m]; i < traceStart[m + 1]; i++) {
-      if (kind[i] === BOOTS) posts = [];
-      else if (kind[i] === POST) run.posts[i] = posts[posts.push(i) - 1];
-      else if (kind[i] === TAKE || kind[i] === DROP) {
-        const post = run.posts[i] = posts[x[i]];
-        [e[i], w[i]] = [e[post], w[post]];
-      }
+/** Reads the trace of a mote. A take and a drop get the event and the word of their post; in each life of the mote,
+ * posts are numbered from 0. The copies that it received at a moment are handed on in their order. */
+function readTrace(run, mote) {
+  const {kind, at, x, p, e, w} = run, end = run.traceStart[mote + 1];
+  let posts = [], waiting = [];
+  for (let i = run.traceStart[mote]; i < end; i++) {
+    const k = kind[i], isPost = k === POST || k === FULL;
+    run.busy[at[i]] = 1;
+    if (waiting.length && at[i] !== at[i - 1]) waiting = [];
+    if (waiting.length && (k === DEAF || isPost && e[i] === run.packetEvent && w[i] === w[run.copyLine[waiting[0]]])) {
+      const copy = waiting.shift();
+      run.handLine[copy] = i;
+      run.copyFate[copy] = OF_HANDING[k];
     }
-  }
-}
-
-/** Finds the fate of each copy in the trace of its receiver. */
-async function followCopies(run) {
-  const {kind, at, x, p, e, w, traceStart} = run;
-  for (let m = 0; m < run.begins.length; m++) {
-    let waiting = [];
-    for (let i = traceStart[m]; i < traceStart[m + 1]; i++) {
-      if (i === traceStart[m] || at[i] !== at[i - 1]) waiting = [];
-      const k = kind[i];
-      if (k === SEND) run.sendLine[run.packetOf(m, x[i])] = i;
-      else if (k in OF_ARRIVAL) {
-        const c = run.copyFor(run.packetOf(p[i], x[i]), m);
-        if (c < 0) continue;
-        run.copyLine[c] = i;
-        run.copyFate[c] = OF_ARRIVAL[k];
-        if (k === RECV) waiting.push(c);
-      } else if (waiting.length && (k === DEAF || (k === POST || k === FULL) && e[i] === run.packetEvent &&
-          w[i] === w[run.copyLine[waiting[0]]])) {
-        const c = waiting.shift();
-        run.handLine[c] = i;
-        run.copyFate[c] = OF_HANDING[k];
-      }
-    }
-    if (m % 100 === 99) await breathe();
+    if (k === POST) run.posts[i] = posts[posts.push(i) - 1];
+    else if (k === TAKE || k === DROP) {
+      const post = run.posts[i] = posts[x[i]];
+      [e[i], w[i]] = [e[post], w[post]];
+    } else if (k in OF_ARRIVAL) {
+      const copy = run.copyFor(run.packetOf(p[i], x[i]), mote);
+      if (copy < 0) continue;
+      run.copyLine[copy] = i;
+      run.copyFate[copy] = OF_ARRIVAL[k];
+      if (k === RECV) waiting.push(copy);
+    } else if (k === SEND) run.sendLine[run.packetOf(mote, x[i])] = i;
+    else if (k === PRINT) run.prints[mote].push(i);
+    else if (k === HALT) run.haltAt[mote] = at[i];
+    else if (k === BOOTS) [posts, run.haltAt[mote]] = [[], Infinity];
   }
 }
 
@@ -148,40 +141,25 @@ function motesInWords(motes) {
     `${motes.length} motes`;
 }
 
-/** Finds silences: runs of a timer that don't send, though the timer sends in another run of the same program. */
+/** Finds silences: runs of a timer that don't send, though the timer sends in another run of the same program; and the
+ * moments of the sends and silences of each island. */
 function findSilence(run) {
-  const {kind, at, e, w, p, traceStart} = run, speaking = new Set(), quiet = new Map();
+  const {kind, at, e, w, p, traceStart} = run, speaking = new Set(), quiet = [];
   run.begins.forEach((program, mote) => {
     for (let i = traceStart[mote], end = traceStart[mote + 1]; i < end; i++) {
       if (kind[i] !== TAKE || e[i] !== run.timerEvent) continue;
       const key = (program * 65536 + p[i]) * 65536 + w[i];
       let next = i + 1;
-      while (next < end && at[next] === at[i] && ![SEND, TAKE, START].includes(kind[next])) next++;
-      if (next < end && at[next] === at[i] && kind[next] === SEND) speaking.add(key); else quiet.set(i, key);
+      while (next < end && at[next] === at[i] && kind[next] !== SEND && !isCall(kind[next])) next++;
+      if (next < end && at[next] === at[i] && kind[next] === SEND) speaking.add(key); else quiet.push({i, key, mote});
     }
   });
+  const silences = quiet.filter(({key}) => speaking.has(key));
   run.silent = new Uint8Array(run.count);
-  for (const [line, key] of quiet) if (speaking.has(key)) run.silent[line] = 1;
-}
-
-/** Notes the moments at which anything happens; the prints of each mote, and the moment at which it halted; and the
- * moments of the sends and silences of each island. */
-function sumUp(run) {
-  const {kind, at, traceStart, silent} = run;
-  run.busy = new Uint8Array(run.end + 1);
-  run.prints = Array.from(run.begins, () => []);
-  run.haltAt = new Float64Array(run.begins.length).fill(Infinity);
+  for (const {i} of silences) run.silent[i] = 1;
   for (const group of run.groups) {
-    const sends = [], silences = [];
-    for (const m of group.motes) {
-      for (let i = traceStart[m]; i < traceStart[m + 1]; i++) {
-        run.busy[at[i]] = 1;
-        if (kind[i] === PRINT) run.prints[m].push(i);
-        else if (kind[i] === HALT || kind[i] === BOOTS) run.haltAt[m] = kind[i] === HALT ? at[i] : Infinity;
-        else if (kind[i] === SEND) sends.push(at[i]);
-        else if (silent[i]) silences.push(at[i]);
-      }
-    }
-    Object.assign(group, {sends: Uint32Array.from(sends).sort(), silences: Uint32Array.from(silences).sort()});
+    const motes = new Set(group.motes);
+    group.sends = run.packetAt.filter((_, k) => motes.has(run.packetSender[k]));
+    group.silences = Uint32Array.from(silences.filter(({mote}) => motes.has(mote)), ({i}) => at[i]).sort();
   }
 }

@@ -41,10 +41,9 @@ function drawLabels({pane, labels, marks}) {
   for (const {text, x, y, colour, behind} of labels) {
     const end = x + text.length * 6.4, isName = colour === 'run-ink';
     let isFree = x <= pane.width && x >= last;
-    for (let i = behind; isFree && i < marks.length &&
-      marks[i] < end; i += 2) isFree = Math.abs(marks[i + 1] - y) >= 9;
+    for (let i = behind; isFree && marks[i] < end; i += 2) isFree = Math.abs(marks[i + 1] - y) >= 9;
     if (!isFree) {
-      drawn.unlabelled += isName ? 0 : 1;
+      if (!isName) drawn.unlabelled++;
       continue;
     }
     last = end;
@@ -132,23 +131,20 @@ function drawFound(pane) {
 /** Draws the lanes of a pane, with all that is around and over them. Lanes that are too low for forms, or have too
  * many lines, are drawn as colours. */
 export function drawLanesOf(pane) {
-  const {context: c, gutter, width, height} = pane, [from, to] = pane.lanesInView();
-  const motes = pane.order.slice(from, to), lines = motes.reduce((sum, mote) => {
-    const [first, end] = pane.linesInView(mote);
-    return sum + end - first;
-  }, 0);
+  const {context: c, gutter, width, height, motesInView: motes} = pane;
+  const lines = motes.map(mote => pane.linesInView(mote)).reduce((sum, [first, end]) => sum + end - first, 0);
   const isCrowded = pane.lane < SMALL_LANE || lines > (pane.lane >= FULL_LANE ? MOST_MARKS : MOST_MARKS * 4);
-  Object.assign(pane, {hits: [], arrows: [], lanes: [from, to],
-    drawn: {lines, thinned: 0, low: 0, rings: 0, unlabelled: 0, asColours: false, copies: 0}});
+  Object.assign(pane, {hits: [], arrows: [],
+    drawn: {lanes: motes.length, lines, thinned: 0, low: 0, rings: 0, unlabelled: 0, asColours: isCrowded, copies: 0}});
   c.save();
   c.beginPath();
   c.rect(gutter, AXIS, width - gutter, height - AXIS);
   c.clip();
   box(c, 'paper', gutter, AXIS, width, height);
-  drawBands(pane, from, to);
+  drawBands(pane, motes);
   drawGrid(pane);
   drawArrows(pane);
-  if (isCrowded) drawOverview(pane, from, to); else for (const mote of motes) drawLane(pane, mote);
+  if (isCrowded) drawOverview(pane, motes); else for (const mote of motes) drawLane(pane, mote);
   drawChosen(pane);
   drawFound(pane);
   for (const draw of page.overlays) draw(pane);
@@ -157,6 +153,6 @@ export function drawLanesOf(pane) {
   box(c, 'edge', gutter - 1, AXIS, 1, height);
   drawHeads(pane);
   // (over the heads: the name of a low lane is taller than the lane)
-  drawNames(pane, from, to);
+  drawNames(pane, motes);
   drawAxis(pane);
 }

@@ -1,5 +1,6 @@
 // A pane: the lanes of a run, with the places of its motes, moments and lines.
 import {PRINT, RECV, SEND} from './data.js';
+import {fitCanvas} from './forms.js';
 import {page} from './stage.js';
 
 /** The height of the axis, and of the head of an island. */
@@ -8,7 +9,7 @@ export const HEAD = 46;
 /** Heights of lanes: below the first, lanes are drawn as colours; from the second on, in rows of forms. */
 export const SMALL_LANE = 9;
 export const FULL_LANE = 32;
-export const TALL_LANE = 150;
+const TALL_LANE = 150;
 /** From this scale on, the lines of a moment are drawn apart. */
 export const APART = 14;
 /** The rows of lines in a lane by their kinds; and those in low lanes. */
@@ -33,9 +34,10 @@ export function nearest(items, farOf, reach) {
 }
 
 export class Pane {
-  /** Its canvas, with the context and the dots of a pixel. */
+  /** Its canvas, with the context and the dots of a pixel; the run that it shows. */
   canvas = /** @type {any} */ (null);
   context = /** @type {any} */ (null);
+  run = /** @type {any} */ (null);
   dots = 1;
   top = 0;
   lane = 20;
@@ -45,43 +47,40 @@ export class Pane {
 
   constructor(run) { this.take(run); }
 
-  /** Makes lanes for the motes of a run, in the order of islands. */
+  /** Makes lanes for the motes of a run, in the order of islands; if all were in view, all are again. */
   take(run) {
+    const wasFit = this.run && this.isFit;
     this.run = run;
     this.order = run.groups.flatMap(group => group.motes);
     this.place = new Int32Array(run.begins.length);
     this.groupOf = new Int32Array(run.begins.length);
     this.order.forEach((mote, place) => { this.place[mote] = place; });
     run.groups.forEach((group, g) => group.motes.forEach(mote => { this.groupOf[mote] = g; }));
+    if (wasFit) this.fit();
   }
 
-  /** Makes the canvas as wide as its place on the page. */
-  resize(height) {
-    const {canvas, context} = this, dots = this.dots = window.devicePixelRatio || 1;
-    this.width = Math.max(200, canvas.parentElement.clientWidth);
-    this.height = height;
-    this.gutter = this.width < 560 ? 64 : 74;
-    canvas.style.height = `${height}px`;
-    Object.assign(canvas, {width: Math.round(this.width * dots), height: Math.round(height * dots)});
-    context.setTransform(dots, 0, 0, dots, 0, 0);
+  /** Makes the canvas as large as its place on the page. */
+  resize() {
+    const {clientWidth, clientHeight} = this.canvas.parentElement, {isFit} = this;
+    Object.assign(this, {width: Math.max(200, clientWidth), height: clientHeight, gutter: clientWidth < 560 ? 64 : 74});
+    this.dots = fitCanvas(this.context, this.width, this.height);
+    if (isFit) this.fit(); else this.keep();
   }
 
   get heads() { return this.run.groups.length * HEAD; }
 
-  /** Makes lanes so low that all are in view, but not too low to be seen. */
-  fit() {
-    this.lane = Math.min(TALL_LANE, this.fitting);
-    this.top = 0;
-    this.keep();
-  }
-
-  /** The height of lanes at which all are in view. */
+  /** The height of lanes at which all are in view, unless they would be too low to be seen. */
   get fitting() {
     const each = (this.height - AXIS - this.heads - 2) / this.order.length;
-    return each > 0.1 ? each : SMALL_LANE;
+    return each > 0.1 ? Math.min(TALL_LANE, each) : SMALL_LANE;
   }
 
-  get isFit() { return Math.abs(this.lane - Math.min(TALL_LANE, this.fitting)) < 0.01; }
+  get isFit() { return Math.abs(this.lane - this.fitting) < 0.01; }
+
+  fit() {
+    Object.assign(this, {lane: this.fitting, top: 0});
+    this.keep();
+  }
 
   /** Keeps the lanes within the pane. */
   keep() {
@@ -91,36 +90,28 @@ export class Pane {
 
   /** Makes lanes taller by a factor; the lane at y stays there. */
   zoomLanes(factor, y = this.height / 2) {
-    const place = Math.min(this.placeAt(y), this.order.length - 1), before = this.laneTopOfPlace(place);
+    const mote = this.order[Math.min(this.placeAt(y), this.order.length - 1)], before = this.laneTop(mote);
     this.lane *= factor;
     this.keep();
-    this.top += this.laneTopOfPlace(place) - before;
+    this.top += this.laneTop(mote) - before;
     this.keep();
   }
 
   x(moment) { return this.gutter + (moment - page.time.begin) * page.time.scale; }
   moment(x) { return page.time.begin + (x - this.gutter) / page.time.scale; }
 
-  laneTopOfPlace(place) {
-    return AXIS - this.top + (this.groupOf[this.order[place]] + 1) * HEAD + place * this.lane;
-  }
-
-  laneTop(mote) { return this.laneTopOfPlace(this.place[mote]); }
+  laneTop(mote) { return AXIS - this.top + (this.groupOf[mote] + 1) * HEAD + this.place[mote] * this.lane; }
   headTop(group) { return this.laneTop(group.motes[0]) - HEAD; }
 
   /** The place of the lane at y in the order of lanes; at a head, of the next lane below. */
   placeAt(y) {
-    let low = 0, high = this.order.length;
-    while (low < high) {
-      const middle = (low + high) >>> 1;
-      if (this.laneTopOfPlace(middle) + this.lane <= y) low = middle + 1; else high = middle;
-    }
-    return low;
+    const found = this.order.findIndex(mote => this.laneTop(mote) + this.lane > y);
+    return found < 0 ? this.order.length : found;
   }
 
   moteAt(y) {
-    const place = this.placeAt(y);
-    return place < this.order.length && this.laneTopOfPlace(place) <= y ? this.order[place] : -1;
+    const mote = this.order[this.placeAt(y)];
+    return mote !== undefined && this.laneTop(mote) <= y ? mote : -1;
   }
 
   /** The x of a line: within its moment by its place in the turn, if there is room for that. */
@@ -159,15 +150,12 @@ export class Pane {
     this.keep();
   }
 
-  /** The places of the lanes in view: from, to. */
-  lanesInView() {
-    return [this.placeAt(AXIS), Math.min(this.placeAt(this.height) + 1, this.order.length)];
-  }
+  /** The motes whose lanes are in view. */
+  get motesInView() { return this.order.slice(this.placeAt(AXIS), this.placeAt(this.height) + 1); }
 
   /** The lines of a mote that are in view: from, to. */
   linesInView(mote) {
-    const {run} = this;
-    return [run.lineAt(mote, Math.floor(this.moment(this.gutter))),
-      run.lineAt(mote, Math.ceil(this.moment(this.width)) + 1)];
+    const first = Math.floor(this.moment(this.gutter)), last = Math.ceil(this.moment(this.width));
+    return [this.run.lineAt(mote, first), this.run.lineAt(mote, last + 1)];
   }
 }

@@ -1,34 +1,26 @@
 // The page of runs: shows them, and reacts to mouse, keys and buttons.
-import {chooseAgain, chooseCopy, chooseLine, chooseMote, chosenInWords, selectNothing, walk} from './details.js';
+import {chooseAgain, chooseLine, chooseMote, chosenInWords, selectNothing, showCard, walk} from './details.js';
 import {byId, count, element} from './dom.js';
 import {drawAll, redraw, redrawLanes} from './draw.js';
 import {showTab} from './drawer.js';
-import {drawLegend, readColours} from './forms.js';
+import {readColours} from './forms.js';
 import {Pane} from './layout.js';
 import {walkLog} from './log.js';
 import {MapView} from './map.js';
-import {itemAt, itemInWords} from './near.js';
+import {itemAt} from './near.js';
 import {chooseSpeed, followNow, setNow, startPlaying, step, stopPlaying} from './play.js';
-import {offerTips, onPointer} from './pointer.js';
+import {onPointer, zoomOf} from './pointer.js';
 import {page} from './stage.js';
-import {isWhole, keepTime, leastScale, showTime, zoomTime} from './time.js';
+import {fitTime, keepTime, leastScale, showTime, zoomTime} from './time.js';
 import {askWhy, closeWhy, drawChain, drawChainOnMap} from './why.js';
 
 const {panes, maps, time, play, chosen} = page;
-const TITLE = 28, LEAST_PANE = 150, SHARE = 0.2, LEAST_STEP = 40;
+const SHARE = 0.2, LEAST_STEP = 40;
 
 /** Fits panes and maps to the window. */
 export function resize() {
-  if (!panes.length) return;
-  const titles = panes.length > 1 ? panes.length * TITLE : 0, fits = panes.map(pane => pane.isFit);
-  const each = Math.round((byId('panes').clientHeight - titles) / panes.length);
-  for (const pane of panes) pane.resize(Math.max(LEAST_PANE, each));
-  const width = panes[0].width - panes[0].gutter, shown = time.width / time.scale, wasWhole = isWhole();
-  time.width = width;
-  time.scale = wasWhole ? leastScale() : width / shown;
-  keepTime();
-  panes.forEach((pane, i) => fits[i] ? pane.fit() : pane.keep());
-  for (const map of maps) map.resize();
+  for (const part of [...panes, ...maps]) part.resize();
+  if (panes.length) fitTime({width: panes[0].width - panes[0].gutter});
 }
 
 export function whole() {
@@ -42,6 +34,13 @@ const paneNow = () => panes.find(it => it.canvas === document.activeElement) || 
 
 const pan = by => { time.begin += time.width / time.scale * SHARE * by; };
 const scroll = by => panes.forEach(pane => { pane.top += Math.max(LEAST_STEP, pane.height * SHARE) * by; });
+
+/** Goes to another line, or another lane, with the card if the keys are for the lanes, and not for the map. */
+function walkBy(lines, lanes = 0) {
+  const pane = paneNow();
+  walk(pane, lines, lanes);
+  if (document.activeElement === pane.canvas) showCard();
+}
 
 /** What keys do; a button names the key that does the same. */
 const KEYS = {
@@ -57,10 +56,10 @@ const KEYS = {
   ' ': () => play.runs ? stopPlaying() : startPlaying(),
   '.': () => step(1),
   ',': () => step(-1),
-  '[': () => walk(paneNow(), -1),
-  ']': () => walk(paneNow(), 1),
-  '{': () => walk(paneNow(), 0, -1),
-  '}': () => walk(paneNow(), 0, 1),
+  '[': () => walkBy(-1),
+  ']': () => walkBy(1),
+  '{': () => walkBy(0, -1),
+  '}': () => walkBy(0, 1),
   w: () => { if (chosen.line >= 0) askWhy(chosen.pane, chosen.line); },
   n: () => walkLog(1),
   p: () => walkLog(-1),
@@ -90,30 +89,24 @@ function act(key) {
 /** Reacts to keys, except in fields and on buttons, which need them. */
 function onKey(event) {
   if (event.ctrlKey || event.metaKey || event.altKey || document.querySelector('dialog[open]')) return;
-  const key = event.key.length === 1 ? event.key.toLowerCase() : event.key;
-  const there = event.target.closest &&
-    event.target.closest('input, textarea, select, button, summary, #details, #drawer');
-  const isTyping = there && !there.matches('button, #details, #drawer');
-  if (isTyping && key === 'Escape') return event.target.blur();
-  if (isTyping || there && (key === ' ' || key.startsWith('Arrow')) || !KEYS[key]) return;
+  const key = event.key.length === 1 ? event.key.toLowerCase() : event.key, {target} = event;
+  const isTyping = target.matches('input, textarea, select, summary');
+  const isMoving = (key === ' ' || key.startsWith('Arrow')) && target.closest('button, #details, #drawer');
+  if (isTyping && key === 'Escape') return target.blur();
+  if (isTyping || isMoving || !KEYS[key]) return;
   act(key);
   event.preventDefault();
 }
 
-/** Reacts to a click: selects the nearest mark or arrow, or sets the moment. */
-function onClick(pane, x, y) {
-  const item = itemAt(pane, x, y);
-  if (!item) {
-    if (x >= pane.gutter) setNow(Math.floor(pane.moment(x)));
-  } else if (item.mote !== undefined) chooseMote(pane, item.mote);
-  else if (item.line !== undefined) chooseLine(pane, item.line);
-  else chooseCopy(pane, item.k, item.copy);
-}
-
 function listenTo(pane) {
-  const {canvas} = pane;
-  onPointer(canvas, {
-    click: (x, y) => onClick(pane, x, y),
+  onPointer(pane.canvas, {
+    words: (x, y) => itemAt(pane, x, y)?.words ?? '',
+    click(x, y, {clientX, clientY}) {
+      const item = itemAt(pane, x, y);
+      item?.choose();
+      if (item) showCard(clientX, clientY);
+      else if (x >= pane.gutter) setNow(Math.floor(pane.moment(x)));
+    },
     drag(dx, dy) {
       time.begin -= dx / time.scale;
       pane.top -= dy;
@@ -123,21 +116,15 @@ function listenTo(pane) {
       zoomTime(factor, x - pane.gutter);
       show();
     },
-  });
-  // (the wheel zooms time, pans with Shift, changes the height of lanes with Ctrl, and goes up and down over the
-  // names)
-  canvas.addEventListener('wheel', event => {
-    event.preventDefault();
-    const by = event.deltaMode === 1 ? 30 : 1, dx = event.deltaX * by, dy = event.deltaY * by;
-    if (event.ctrlKey) pane.zoomLanes(Math.exp(-dy * 0.0015), event.offsetY);
-    else if (event.shiftKey || Math.abs(dx) > Math.abs(dy)) time.begin += (dx || dy) / time.scale;
-    else if (event.offsetX < pane.gutter) pane.top += dy;
-    else zoomTime(Math.exp(-dy * 0.0015), event.offsetX - pane.gutter);
-    show();
-  }, {passive: false});
-  offerTips(canvas, (x, y) => {
-    const item = itemAt(pane, x, y);
-    return item ? itemInWords(pane.run, item) : '';
+    // (it pans with Shift, changes the height of lanes with Ctrl, and goes up and down over the names)
+    wheel({deltaMode, deltaX, deltaY, ctrlKey, shiftKey, offsetX, offsetY}) {
+      const by = deltaMode === 1 ? 30 : 1, dx = deltaX * by, dy = deltaY * by;
+      if (ctrlKey) pane.zoomLanes(zoomOf(dy), offsetY);
+      else if (shiftKey || Math.abs(dx) > Math.abs(dy)) time.begin += (dx || dy) / time.scale;
+      else if (offsetX < pane.gutter) pane.top += dy;
+      else zoomTime(zoomOf(dy), offsetX - pane.gutter);
+      show();
+    },
   });
 }
 
@@ -168,7 +155,6 @@ function listen() {
 /** Draws everything again in other colours, at once because the page may be printed. */
 function recolour() {
   readColours();
-  drawLegend();
   for (const map of maps) map.still = null;
   drawAll();
 }
@@ -179,47 +165,37 @@ function addPane(run, number, several) {
       '[ and ] choose a line, { and } another lane, plus and minus zoom, arrows pan.'});
   const cursor = element('div', '', [], {className: 'cursor', 'aria-hidden': 'true'});
   const layers = element('div', '', [canvas, cursor], {className: 'layers'});
-  const map = element('section', '', [], {className: 'map'}), context = canvas.getContext('2d', {alpha: false});
-  const pane = Object.assign(new Pane(run), {number, canvas, context, cursor});
-  const box = element('div', '', [...(several ? [element('h2', run.name)] : []), layers], {className: 'pane'});
-  byId('panes').append(box);
-  byId('maps').append(map);
+  const pane = Object.assign(new Pane(run), {number, canvas, context: canvas.getContext('2d', {alpha: false}), cursor});
+  byId('panes').append(element('div', '', [...several ? [element('h2', run.name)] : [], layers], {className: 'pane'}));
   panes.push(pane);
-  maps.push(new MapView(pane, map, several ? `Map of ${run.name}` : 'Map'));
+  maps.push(new MapView(pane, byId('maps').appendChild(element('section', '', [], {className: 'map'})),
+    several ? `Map of ${run.name}` : 'Map'));
   listenTo(pane);
 }
 
-/** Says how long and how large the runs are. */
-function sayAbout() {
-  const about = byId('about');
-  time.end = Math.max(...panes.map(({run}) => run.end));
-  about.textContent = about.title = panes.map(({run}) => `${run.name}: ` +
-    `${count(run.begins.length, 'mote')}, ${count(run.end + 1, 'moment')}, ${count(run.packets, 'packet')}, ` +
-    `a report of ${count(run.rows, 'line')}`).join('; ');
+/** Takes the last moment of all runs as the end of the view. */
+function fitEnd() {
+  fitTime({end: Math.max(...panes.map(({run}) => run.end))});
   byId('now').max = time.end;
 }
 
 /** Shows the first runs of a page, one above another. */
 export function showRuns(runs) {
   runs.forEach((run, number) => addPane(run, number, runs.length > 1));
-  sayAbout();
+  fitEnd();
   chooseSpeed();
-  drawLegend();
   listen();
   resize();
 }
 
 /** Shows another run in a pane. Zoom, place and selection stay as far as they can. */
 export function showInstead(pane, run) {
-  const wasWhole = isWhole(), {isFit} = pane, kept = chosenInWords();
+  const kept = chosenInWords();
   closeWhy();
   pane.take(run);
   maps[pane.number].take(run);
-  sayAbout();
+  fitEnd();
   resize();
-  if (wasWhole) time.scale = leastScale();
-  keepTime();
-  if (isFit) pane.fit(); else pane.keep();
   const now = Math.min(play.now, time.end);
   if (kept) chooseAgain(pane, kept);
   setNow(now);

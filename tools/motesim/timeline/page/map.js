@@ -1,12 +1,12 @@
 // The map of a run: motes at their places, who hears whom, which links lose packets, and the packets on their way.
 import {COLLIDE, DEAF, KINDS, LOST, RECV, SEND, lowerBound, numbers} from './data.js';
-import {chooseMote} from './details.js';
-import {byId, count} from './dom.js';
+import {chooseMote, showCard} from './details.js';
+import {byId, count, element} from './dom.js';
 import {redraw} from './draw.js';
-import {box, drawArrow, drawForm, drawPath, fill, ring, setFont, stampOf, stroke, write} from './forms.js';
+import {box, drawArrow, drawForm, drawPath, fill, fitCanvas, ring, setFont, stampOf, stroke, write} from './forms.js';
 import {HANDED, MEDIUM, arrivalOf} from './index.js';
 import {linkInWords, moteInWords} from './near.js';
-import {offerTips, onPointer} from './pointer.js';
+import {onPointer} from './pointer.js';
 import {MapLayout} from './places.js';
 import {page} from './stage.js';
 
@@ -23,13 +23,11 @@ export class MapView extends MapLayout {
     // The actions with the motes on a map that can be changed: hold, drag, drop, click and key.
     this.edits = /** @type {any} */ (null);
     this.still = /** @type {any} */ (null);
-    frame.innerHTML = '<h2></h2><canvas role="img"></canvas><p></p>';
-    frame.querySelector('h2').textContent = title;
-    this.canvas = frame.querySelector('canvas');
-    this.said = frame.querySelector('p');
+    this.canvas = element('canvas', '', [], {role: 'img', 'aria-label':
+      'Map of the motes: who hears whom, and the packets on their way at the moment that is played'});
     this.context = this.canvas.getContext('2d');
-    this.canvas.setAttribute('aria-label',
-      'Map of the motes: who hears whom, and the packets on their way at the moment that is played');
+    this.said = element('p');
+    frame.append(element('h2', title), this.canvas, this.said);
     this.listen();
   }
 
@@ -40,11 +38,8 @@ export class MapView extends MapLayout {
 
   /** Makes the picture as large as the page shows it, so that the mouse finds the motes at their places. */
   resize() {
-    const {canvas} = this, dots = this.dots = window.devicePixelRatio || 1;
-    this.fitTo(canvas.clientWidth || 120, byId('maps').clientHeight);
-    canvas.style.height = `${this.height + canvas.offsetHeight - canvas.clientHeight}px`;
-    Object.assign(canvas, {width: this.width * dots, height: this.height * dots});
-    this.context.setTransform(dots, 0, 0, dots, 0, 0);
+    this.fitTo(this.canvas.clientWidth || 120, byId('maps').clientHeight);
+    this.dots = fitCanvas(this.context, this.width, this.height);
     this.still = null;
   }
 
@@ -193,16 +188,14 @@ export class MapView extends MapLayout {
     redraw();
   }
 
-  zoomView(factor, x, y) {
-    this.zoomAt(factor, x, y);
-    this.redraw();
-  }
-
   listen() {
     const {canvas} = this;
-    offerTips(canvas, (x, y) => this.wordsAt(x, y));
     onPointer(canvas, {
-      zoom: (factor, x, y) => this.zoomView(factor, x, y),
+      words: (x, y) => this.wordsAt(x, y),
+      zoom: (factor, x, y) => {
+        this.zoomAt(factor, x, y);
+        this.redraw();
+      },
       hold: (x, y) => this.edits ? this.edits.hold(x, y) : -1,
       drag: (dx, dy, event, mote) => {
         if (mote >= 0) return this.edits.drag(mote, event.offsetX, event.offsetY, event.altKey);
@@ -211,24 +204,17 @@ export class MapView extends MapLayout {
         this.redraw();
       },
       drop: (event, mote) => mote >= 0 && this.edits.drop(mote, event.offsetX, event.offsetY, event.altKey),
-      click: (x, y) => {
+      click: (x, y, {clientX, clientY}) => {
         const mote = this.moteNear(x, y);
-        if (!(this.edits && this.edits.click(x, y, mote)) && mote >= 0) chooseMote(this.pane, mote, true);
+        if (this.edits?.click(x, y, mote) || mote < 0) return;
+        chooseMote(this.pane, mote, true);
+        showCard(clientX, clientY);
       },
     });
     canvas.addEventListener('keydown', event => {
-      if (event.ctrlKey || event.metaKey || event.altKey || !this.edits || !this.edits.key(event)) return;
+      if (event.ctrlKey || event.metaKey || event.altKey || !this.edits?.key(event)) return;
       event.preventDefault();
       event.stopPropagation();
     });
-    canvas.addEventListener('wheel', event => {
-      event.preventDefault();
-      this.zoomView(Math.exp(-event.deltaY * 0.0015), event.offsetX, event.offsetY);
-    }, {passive: false});
-    // (a finger scrolls the page, unless it drags a mote)
-    canvas.addEventListener('touchstart', event => {
-      const [finger] = event.touches, box = canvas.getBoundingClientRect();
-      if (this.edits && this.edits.hold(finger.clientX - box.x, finger.clientY - box.y) >= 0) event.preventDefault();
-    }, {passive: false});
   }
 }

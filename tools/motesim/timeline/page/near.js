@@ -1,6 +1,7 @@
 // What is near a point of the lanes or of a map, and its words.
 import {arrowNear} from './arrows.js';
 import {numbers} from './data.js';
+import {chooseCopy, chooseLine, chooseMote} from './details.js';
 import {count} from './dom.js';
 import {FATE_WORDS, delayOf} from './index.js';
 import {SMALL_LANE} from './layout.js';
@@ -10,23 +11,21 @@ import {page} from './stage.js';
 /** Pixels from a moment to those that show its line in a low lane. */
 const REACH = 4;
 
-/** The item at a point of the lanes: a copy of a packet, a line, or a mote by its name; null if there is none.
- * @param {any} pane @param {number} x @param {number} y
- * @returns {{k?: number, copy?: number, line?: number, mote?: number}|null} */
+/** What is at a point of the lanes, with its words and what selects it: a mote by its name, a copy of a packet, or a
+ * line; null if nothing is.
+ * @returns {{words: string, choose: () => void}|null} */
 export function itemAt(pane, x, y) {
-  const mote = pane.moteAt(y);
-  if (x < pane.gutter) return mote >= 0 ? {mote} : null;
-  let best = 10, line = -1;
-  for (let i = 0; i < pane.hits.length; i += 3) {
-    const away = Math.hypot(pane.hits[i] - x, pane.hits[i + 1] - y);
-    if (away < best) [best, line] = [away, pane.hits[i + 2]];
+  const {run, hits} = pane, mote = pane.moteAt(y);
+  if (x < pane.gutter) return mote < 0 ? null : {words: moteInWords(run, mote), choose: () => chooseMote(pane, mote)};
+  const inPixel = mote >= 0 && pane.lane < SMALL_LANE ? lineOfPixel(pane, mote, x) : -1;
+  let best = 10, line = inPixel;
+  for (let i = 0; i < hits.length; i += 3) {
+    const away = Math.hypot(hits[i] - x, hits[i + 1] - y);
+    if (away < best) [best, line] = [away, hits[i + 2]];
   }
-  if (mote >= 0 && pane.lane < SMALL_LANE) {
-    line = lineOfPixel(pane, mote, x);
-    if (line >= 0) return {line};
-  }
-  const arrow = arrowNear(pane, x, y, line >= 0 ? Math.min(3, best - 3) : 7);
-  return arrow ? {k: arrow.k, copy: arrow.copy} : line >= 0 ? {line} : null;
+  const found = inPixel >= 0 ? null : arrowNear(pane, x, y, line >= 0 ? Math.min(3, best - 3) : 7);
+  if (found) return {words: copyInWords(run, found), choose: () => chooseCopy(pane, found.k, found.copy)};
+  return line < 0 ? null : {words: lineInWords(run, line), choose: () => chooseLine(pane, line)};
 }
 
 /** The line of a low lane whose colour a pixel has: the most notable one of its turn; -1 if there is none. */
@@ -37,13 +36,11 @@ function lineOfPixel({run, gutter}, mote, x) {
   return numbers(...run.turn(near, mote)).reduce((best, it) => rankOf(run, it) > rankOf(run, best) ? it : best);
 }
 
-export function itemInWords(run, item) {
-  const {mote, line, k, copy} = item;
-  if (mote !== undefined) return moteInWords(run, mote);
-  if (line !== undefined) return `mote ${run.moteOf(line)}, moment ${run.at[line]}: ${run.told(line)} (click for more)`;
-  return `packet ${run.packetNumber[k]} of mote ${run.packetSender[k]} to mote ${run.copyTo[copy]}, sent at ` +
-    `${run.packetAt[k]}: ${FATE_WORDS[run.copyFate[copy]]}`;
-}
+const lineInWords = (run, line) =>
+  `mote ${run.moteOf(line)}, moment ${run.at[line]}: ${run.told(line)} (click for more)`;
+
+const copyInWords = (run, {k, copy}) => `packet ${run.packetNumber[k]} of mote ${run.packetSender[k]} to mote ` +
+  `${run.copyTo[copy]}, sent at ${run.packetAt[k]}: ${FATE_WORDS[run.copyFate[copy]]}`;
 
 /** A mote in words: its program and the motes that it hears. */
 export function moteInWords(run, mote) {

@@ -2,7 +2,7 @@
 import {chainOf} from './causes.js';
 import {Run, columnsIn} from './data.js';
 import {chooseLine, chooseMote, chooseRow, rowButton} from './details.js';
-import {byId, element, list} from './dom.js';
+import {byId, count, element, list} from './dom.js';
 import {drawAll} from './draw.js';
 import {beginDrawer} from './drawer.js';
 import {readColours} from './forms.js';
@@ -14,9 +14,6 @@ import {setNow} from './play.js';
 import {page} from './stage.js';
 import {showTime} from './time.js';
 
-/** The part of a run at its beginning, up to which all lines count as being together. */
-const SMALL_PART = 0.1;
-
 /** Shows the moments around one, with the lanes of a mote in view. */
 function showAround(moment, mote) {
   showTime(Math.max(0, moment - 15), Math.min(page.time.end, moment + 45));
@@ -27,17 +24,11 @@ function showAround(moment, mote) {
   }
 }
 
-/** Shows the beginning of the run, if no line is later. The button for the whole run shows the rest. */
-function showBeginning() {
-  const last = Math.max(...page.panes.map(({run}) => run.busy.lastIndexOf(1)));
-  if (last + 1 <= (page.time.end + 1) * SMALL_PART) showTime(0, Math.ceil(last * 1.2) + 2);
-}
-
 /** Shows the purpose of the page: its note, or a moment, or the whole run. */
 function openAt({start, mote, note}) {
   whole();
   if (note) return openAtNote(note);
-  if (start === null) return showBeginning();
+  if (start === null) return;
   showAround(start, mote);
   if (mote === null) return;
   // (the first line of the mote at this moment, in the first run that has one)
@@ -71,7 +62,7 @@ function openAtNote(note) {
 async function open() {
   page.chainOf = chainOf;
   beginDrawer();
-  const data = JSON.parse(byId('data').textContent), runs = [];
+  const data = JSON.parse(byId('data').textContent), runs = /** @type {any[]} */ ([]);
   readColours();
   for (const [number, table] of data.runs.entries()) {
     const box = byId(`run${number}`), {buffer} = await unpacked(box.textContent);
@@ -82,6 +73,9 @@ async function open() {
     runs.push(run);
   }
   showRuns(runs);
+  byId('about').textContent = byId('about').title = runs.map(run => `${run.name}: ` +
+    `${count(run.begins.length, 'mote')}, ${count(run.end + 1, 'moment')}, ${count(run.packets, 'packet')}, ` +
+    `a report of ${count(run.rows, 'line')}`).join('; ');
   openAt(data);
   openAsAddressed();
   page.ready = true;

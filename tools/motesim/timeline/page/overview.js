@@ -34,14 +34,13 @@ function pixelOf(colour) {
 }
 
 /** Draws lanes too low for forms: each pixel has the colour of its most notable line. */
-export function drawOverview(pane, from, to) {
+export function drawOverview(pane, motes) {
   const {context: c, gutter, lane} = pane, wide = Math.floor(pane.width - gutter), rows = new Map();
   const {begin, scale} = page.time, first = Math.round(begin * scale);
-  for (let place = from; place < to; place++) {
+  for (const mote of motes) {
     // (lanes below a pixel share one)
-    const top = pane.laneTopOfPlace(place), y = lane < 1 ? Math.floor(top) : top,
-      ranks = ranksOf(pane.run, pane.order[place], scale, first, wide);
-    const row = rows.get(y);
+    const top = pane.laneTop(mote), y = lane < 1 ? Math.floor(top) : top, row = rows.get(y);
+    const ranks = ranksOf(pane.run, mote, scale, first, wide);
     if (!row) rows.set(y, ranks);
     else for (let j = 0; j < wide; j++) if (row[j] < ranks[j]) row[j] = ranks[j];
   }
@@ -57,5 +56,4 @@ export function drawOverview(pane, from, to) {
     c.drawImage(picture, 0, row, wide, end - row, gutter, tops[row], wide, (end - row) * Math.max(1, lane));
   }
   c.imageSmoothingEnabled = true;
-  pane.drawn.asColours = true;
 }

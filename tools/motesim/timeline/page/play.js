@@ -1,7 +1,7 @@
 // The moment that the maps show, and playing from moment to moment.
 import {lowerBound} from './data.js';
 import {byId} from './dom.js';
-import {redrawLanes, redrawNow} from './draw.js';
+import {redrawLanes, redrawMaps} from './draw.js';
 import {page} from './stage.js';
 import {keepTime} from './time.js';
 
@@ -14,7 +14,7 @@ export function setNow(moment, before = null) {
   play.now = Math.max(0, Math.min(page.time.end, moment));
   play.before = before ?? play.now - 1;
   byId('now').value = Math.floor(play.now);
-  redrawNow();
+  redrawMaps();
 }
 
 const isBusy = moment => page.panes.some(pane => pane.run.busy[moment]);

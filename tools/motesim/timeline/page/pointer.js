@@ -1,14 +1,20 @@
-// The pointer on a picture: it drags and clicks, two fingers zoom, and a tip says what is there.
+// The pointer on a picture: it drags and clicks, the wheel and two fingers zoom, and a tip says what is there.
 import {byId} from './dom.js';
 
-/** What a pointer does with a picture: `hold` says what is held at a point, `drag` moves it by so many pixels, `drop`
- * leaves it there, `click` ends a touch without a move, and `zoom` gets a factor and the point between two fingers.
- * @typedef {{hold?: (x: number, y: number) => number, click: (x: number, y: number) => void,
+/** What a pointer does with a picture: `words` says what is at a point, '' for nothing; `hold` which thing is held
+ * there, `drag` moves it by so many pixels, `drop` leaves it there, `click` ends a touch without a move; and `zoom`
+ * gets a factor and a point.
+ * @typedef {{words: (x: number, y: number) => string, hold?: (x: number, y: number) => number,
+ *   click: (x: number, y: number, event: PointerEvent) => void,
  *   drag: (dx: number, dy: number, event: PointerEvent, held: number) => void,
- *   drop?: (event: PointerEvent, held: number) => void, zoom: (factor: number, x: number, y: number) => void}} Hand */
+ *   drop?: (event: PointerEvent, held: number) => void, zoom: (factor: number, x: number, y: number) => void,
+ *   wheel?: (event: WheelEvent) => void}} Hand */
 
-// Pixels that a click may move; and those of a tip from the pointer, and from the edge of the window.
-const STILL = 4, AWAY = 14, EDGE = 4;
+// Pixels that a click may move; and those of a tip from the pointer.
+const STILL = 4, AWAY = '14px';
+
+/** The factor by which the wheel zooms. */
+export const zoomOf = pixels => Math.exp(-pixels * 0.0015);
 
 /** Lets a hand work on a picture. @param {HTMLElement} canvas @param {Hand} hand */
 export function onPointer(canvas, hand) {
@@ -25,6 +31,9 @@ export function onPointer(canvas, hand) {
     canvas.setPointerCapture(pointerId);
     canvas.classList.add('held');
   });
+  // (a finger scrolls the page, unless it holds something)
+  canvas.addEventListener('touchstart', event => { if (held && held.it >= 0) event.preventDefault(); },
+    {passive: false});
   canvas.addEventListener('pointermove', event => {
     const {pointerId, offsetX, offsetY} = event;
     if (fingers.size === 2 && fingers.has(pointerId)) {
@@ -46,25 +55,26 @@ export function onPointer(canvas, hand) {
     fingers.delete(event.pointerId);
     canvas.classList.remove('held');
     if (was && was.moved) hand.drop?.(event, was.it);
-    else if (was && event.type === 'pointerup') hand.click(event.offsetX, event.offsetY);
+    else if (was && event.type === 'pointerup') hand.click(event.offsetX, event.offsetY, event);
   };
   canvas.addEventListener('pointerup', release);
   canvas.addEventListener('pointercancel', release);
+  canvas.addEventListener('wheel', event => {
+    event.preventDefault();
+    if (hand.wheel) hand.wheel(event); else hand.zoom(zoomOf(event.deltaY), event.offsetX, event.offsetY);
+  }, {passive: false});
+  offerTips(canvas, hand.words);
 }
 
-/** Shows tips over a picture. `wordsAt` has the words at a point of it, and '' where nothing is.
- * @param {HTMLElement} canvas @param {(x: number, y: number) => string} wordsAt */
-export function offerTips(canvas, wordsAt) {
-  const box = byId('tip');
+/** Shows tips over a picture, on that side of the pointer where the window has more room. */
+function offerTips(canvas, wordsAt) {
+  const tip = byId('tip'), beside = (place, size) => place < size / 2 ? AWAY : `calc(-100% - ${AWAY})`;
   canvas.addEventListener('pointermove', ({buttons, pointerType, offsetX, offsetY, clientX: x, clientY: y}) => {
-    box.textContent = buttons || pointerType === 'touch' ? '' : wordsAt(offsetX, offsetY);
-    box.hidden = !box.textContent;
-    canvas.classList.toggle('points', !box.hidden);
-    if (box.hidden) return;
-    const {width, height} = box.getBoundingClientRect();
-    const left = Math.max(EDGE, Math.min(x + AWAY, innerWidth - width - EDGE));
-    Object.assign(box.style, {left: `${left}px`,
-      top: `${y + AWAY + height > innerHeight ? y - height - AWAY : y + AWAY}px`});
+    tip.textContent = buttons || pointerType === 'touch' ? '' : wordsAt(offsetX, offsetY);
+    tip.hidden = !tip.textContent;
+    canvas.classList.toggle('points', !tip.hidden);
+    Object.assign(tip.style, {left: `${x}px`, top: `${y}px`,
+      transform: `translate(${beside(x, innerWidth)}, ${beside(y, innerHeight)})`});
   });
-  for (const name of ['pointerleave', 'pointerdown']) canvas.addEventListener(name, () => { box.hidden = true; });
+  for (const name of ['pointerleave', 'pointerdown']) canvas.addEventListener(name, () => { tip.hidden = true; });
 }

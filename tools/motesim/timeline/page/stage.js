@@ -39,9 +39,9 @@ export const page = {
   /** The map as a way to change the text: whether the next click or Enter adds a mote, and whether the added one gets
    * selected; the link that is shown, and the mote that is moved. */
   ground: {adding: false, chooses: false, way: none, held: none},
-  /** The places in order of time that the log has, the first that it lists, for which selection, and the lines with
-   * rings in each pane. */
-  logged: {run: none, places: new Uint32Array(0), first: 0, times: -1, rings: list()},
+  /** The lines that the log has, in order of time; the place of the first that it lists, and for which selection; and
+   * the lines with rings in each pane. */
+  logged: {run: none, lines: list(), first: 0, times: -1, rings: list()},
   /** Functions of other modules: they draw over the lanes of a pane, or over a map; or follow the moment and the
    * selection. */
   overlays: does(),
@@ -88,8 +88,3 @@ export const page = {
 
 /** Something that a backend refuses to do. The message is for the reader. */
 export class Refused extends Error {}
-
-export function choose(it) {
-  Object.assign(page.chosen, {pane: null, mote: -1, line: -1, k: -1, copy: -1}, it);
-  page.chosen.times++;
-}

@@ -1,9 +1,8 @@
 // The tab *Sums*: the totals of a run, by mote, for the net, and by link.
 import {DROP, FULL, HALT, KINDS, POST, PRINT, SEND, TAKE} from './data.js';
-import {element, table} from './dom.js';
+import {element} from './dom.js';
 import {COLLIDED, GONE, LEFT, MEDIUM, RING, delayOf} from './index.js';
 
-const DIGITS = 1e6;
 /** The outcomes of copies, in the order of the columns. */
 const OUTCOMES = ['received', 'lost', 'overflowed', 'collided', 'halted', 'left'];
 const OF_FATES = {[MEDIUM]: 1, [RING]: 2, [COLLIDED]: 3, [GONE]: 4, [LEFT]: 5};
@@ -22,7 +21,7 @@ export function countKinds(lines) {
  * @param {number[]} became @returns {(number|null)[]} */
 function copiesRow(became) {
   const copies = became.reduce((sum, it) => sum + it, 0), due = copies - became[5];
-  return [copies, ...became, due ? Math.round(became[0] / due * DIGITS) / DIGITS : null];
+  return [copies, ...became, due ? became[0] / due : null];
 }
 
 /** The tables of a run, each with its names in the first row. */
@@ -64,13 +63,11 @@ function netRow(motes) {
 
 /** @param {any[][]} all the names and the rows */
 function sumTable([names, ...rows]) {
-  const shown = value => value === null ? '-' : Number.isInteger(value) || typeof value === 'string' ? String(value) :
-    value.toFixed(3);
-  return table(names, rows.map(row => element('tr', '', row.map((value, i) =>
-    element('td', shown(value), [], {className: names[i]})), {className: row[0]})));
+  const shown = value => String(value === null ? '-' : value % 1 ? value.toFixed(3) : value);
+  const row = (name, its, what = '') => element('tr', '', its.map((it, i) =>
+    element(name, shown(it), [], {className: names[i]})), {className: what});
+  return element('table', '', [element('thead', '', [row('th', names)]),
+    element('tbody', '', rows.map(its => row('td', its, its[0])))]);
 }
 
-export function fillSums(box, run) {
-  const {motes, links} = sums(run);
-  box.replaceChildren(sumTable(motes), sumTable(links));
-}
+export const fillSums = (box, run) => box.replaceChildren(...Object.values(sums(run)).map(sumTable));

@@ -8,6 +8,14 @@ export const leastScale = () => time.width / (time.end + 1) * 0.98;
 
 export const isWhole = () => time.scale <= leastScale() * 1.001;
 
+/** Takes another width of the view, or another end of the run; a whole run stays in view. */
+export function fitTime({width = time.width, end = time.end}) {
+  const shown = time.width / time.scale, wasWhole = isWhole();
+  Object.assign(time, {width, end});
+  time.scale = wasWhole ? leastScale() : width / shown;
+  keepTime();
+}
+
 /** Keeps the view within the run. */
 export function keepTime() {
   time.scale = Math.min(MOST_SCALE, Math.max(leastScale(), time.scale));
@@ -18,7 +26,8 @@ export function keepTime() {
 /** Zooms so that the moment at x stays there. */
 export function zoomTime(factor, x = time.width / 2) {
   const moment = time.begin + x / time.scale;
-  time.scale = Math.min(MOST_SCALE, Math.max(leastScale(), time.scale * factor));
+  time.scale *= factor;
+  keepTime();
   time.begin = moment - x / time.scale;
   keepTime();
 }

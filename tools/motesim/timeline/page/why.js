@@ -1,6 +1,6 @@
 // Why a line is there: the chain of its causes, on the lanes, on the map, and as a list of lines.
 import {pathOf} from './causes.js';
-import {rowButton} from './details.js';
+import {rowButton, showCard} from './details.js';
 import {byId, count, element, list, makeButton, withPlaces} from './dom.js';
 import {redraw} from './draw.js';
 import {drawPath, head, ring, stroke} from './forms.js';
@@ -20,10 +20,11 @@ export async function askWhy(pane, line) {
 
 /** Shows a title, texts and items, and announces a text. */
 function show(title, texts, items, spoken) {
-  byId('why-chain').hidden = false;
-  byId('why-chain').replaceChildren(element('h2', title), ...texts.map(text => element('p', '', withPlaces(text))),
-    list('ol', items), makeButton('Close', closeWhy));
   const chain = byId('why-chain'), frame = chain.closest('#card');
+  chain.hidden = false;
+  chain.replaceChildren(element('h2', title), ...texts.map(text => element('p', '', withPlaces(text))),
+    list('ol', items), makeButton('Close', closeWhy));
+  if (frame?.hidden) showCard();
   if (frame) frame.scrollTop += chain.getBoundingClientRect().top - frame.getBoundingClientRect().top - EDGE;
   byId('spoken').textContent = spoken;
   redraw();

@@ -1,8 +1,7 @@
 // The tab *Checks*: what must hold of the run, decided after each run; and the ways to say it.
-import {chooseLine, chooseMote} from '../../timeline/page/details.js';
+import {chooseLine, chooseMote, showCard} from '../../timeline/page/details.js';
 import {byId, element, makeButton, onSubmit} from '../../timeline/page/dom.js';
 import {redraw} from '../../timeline/page/draw.js';
-import {showCard} from '../../timeline/page/drawer.js';
 import {ringAt} from '../../timeline/page/lanes.js';
 import {setNow} from '../../timeline/page/play.js';
 import {page} from '../../timeline/page/stage.js';
