@@ -43,7 +43,7 @@ function drawLabels({pane, labels, marks}) {
     let isFree = x <= pane.width && x >= last;
     for (let i = behind; isFree && marks[i] < end; i += 2) isFree = Math.abs(marks[i + 1] - y) >= 9;
     if (!isFree) {
-      if (!isName) drawn.unlabelled++;
+      if (colour === 'print') drawn.unlabelled++;
       continue;
     }
     last = end;
