@@ -198,12 +198,12 @@ export class MapView extends MapLayout {
       },
       hold: (x, y) => this.edits ? this.edits.hold(x, y) : -1,
       drag: (dx, dy, event, mote) => {
-        if (mote >= 0) return this.edits.drag(mote, event.offsetX, event.offsetY, event.altKey);
+        if (mote >= 0) return this.edits.drag(mote, event.offsetX, event.offsetY);
         this.dx += dx;
         this.dy += dy;
         this.redraw();
       },
-      drop: (event, mote) => mote >= 0 && this.edits.drop(mote, event.offsetX, event.offsetY, event.altKey),
+      drop: (event, mote) => mote >= 0 && this.edits.drop(mote, event.offsetX, event.offsetY),
       click: (x, y, {clientX, clientY}) => {
         const mote = this.moteNear(x, y);
         if (this.edits?.click(x, y, mote) || mote < 0) return;

@@ -2,8 +2,8 @@
 import {lowerBound} from './data.js';
 import {awayFrom, nearest} from './layout.js';
 
-// Pixels from the row or the column of another mote within which a mote is moved there; and the margin of the map.
-const SNAP = 6, ROOM = 26;
+/** The margin of the map. */
+const ROOM = 26;
 
 /** Places along one axis with wide empty stretches shortened; whether any was; and the function from shown places back
     to real ones. */
@@ -71,18 +71,6 @@ export class MapLayout {
   /** The coordinates of a mote at a point of the view. */
   placeAt(x, y) {
     return this.shownAt(x, y).map((shown, axis) => Math.round(this.backTo[axis](shown)));
-  }
-
-  /** The coordinates of a mote at a point: in the row and the column of others, if these are near. */
-  snappedAt(x, y, mote) {
-    const found = this.placeAt(x, y), best = [SNAP, SNAP];
-    this.run.places.forEach((place, m) => {
-      if (m === mote) return;
-      [Math.abs(this.x(m) - x), Math.abs(this.y(m) - y)].forEach((away, axis) => {
-        if (away < best[axis]) [best[axis], found[axis]] = [away, place[axis]];
-      });
-    });
-    return found;
   }
 
   /** The ends of the way between two motes, each a cut nearer to the other. */

@@ -60,24 +60,21 @@ export const page = {
   expectsOf: none,
   faultsOf: none,
   toggleFault: none,
-  /** What must hold, with its verdicts, for which text; how long one run of them took; the faults that name no copy;
-   * what the surveys of single faults and of pairs found, and the faults that alone break something; the sentence
-   * about all this; whether the page goes to the next break; and the words of what needn't hold with faults, and
-   * whether the reader has chosen them. */
-  checks: {items: list(), text: '', took: 0, unused: list(), survey: none, pairs: none, weak: list(), words: '',
-    is: '', follows: false, without: new Set(), chosen: false},
+  /** What must hold, with its verdicts, for which text; the faults that name no copy; what the surveys of single
+   * faults and of pairs found, and the faults that alone break something; the sentence about all this; whether the page
+   * goes to the next break; and the words of what needn't hold with faults. */
+  checks: {items: list(), text: '', unused: list(), survey: none, pairs: none, weak: list(), words: '', is: '',
+    follows: false, without: new Set()},
   /** Functions that are called when the results that are shown become those of an earlier text; when a run is shown,
-   * its checks are decided, and faults are surveyed; when a document was opened, or is shown again (`isAgain`); when
-   * its text is kept; and when the reader leaves the page. */
-  reactions: {outdated: does(), ran: does(), judged: does(), surveyed: does(), opened: does(), kept: does(),
-    left: does()},
+   * its checks are decided, and faults are surveyed; and when a document was opened, or is shown again (`isAgain`). */
+  reactions: {outdated: does(), ran: does(), judged: does(), surveyed: does(), opened: does()},
   /** The state that is shown, and the selection whose statement is marked. */
   state: '', marked: 0,
   /** The text. `document` has its name and place, `saved` the text of its file, and `intro` says where it came from;
-   * `asked` counts the runs that were asked for, `ran` is the last of them that ended, `number` the backend's number of
-   * the run that is shown, and `judged` of the one whose results are; `fresh` is true until the first run of a text. */
-  web: {pad: none, history: new History(), document: none, saved: '', shown: '', took: 0, intro: '', example: none,
-    timer: 0, keepTimer: 0, asked: 0, ran: 0, number: 0, judged: 0, fresh: true, fault: none, folder: '',
+   * `asked` counts the runs that were asked for, `ran` is the last of them that ended, and `number` the backend's
+   * number of the run that is shown; `fresh` is true until the first run of a text. */
+  web: {pad: none, history: new History(), document: none, saved: '', shown: '', intro: '', example: none, timer: 0,
+    keepTimer: 0, asked: 0, ran: 0, number: 0, fresh: true, fault: none, folder: '',
     outcome: {words: '', is: '', buttons: list(), offers: list()}},
 };
 
