@@ -60,8 +60,8 @@ def main() -> int:
     text = text_of(scenario) if is_own and not asked.claims else ''
     claims, faults, passed, failed = own_claims(text), faults_asked(asked), 0, 0
     if is_own and not expectations.exists() and not claims:
-        raise Fault('there is no file %s next to %s: name another one behind the scenario, or use --expect' % (
-            expectations, scenario))
+        raise Fault('there is no file %s next to %s: name another one, tools/expect SCENARIO EXPECTATIONS, '
+                    'or use --expect' % (expectations, scenario))
     if asked.claims:
         print('\n'.join(claims_shown(scenario, expectations, asked.expect)))
         return 0
