@@ -21,10 +21,6 @@ class Scenarios(unittest.TestCase):
             for text in found.programs.values():
                 self.assertIsNone(find_fault(text), name)
 
-    def test_a_part_has_fewer_moments(self) -> None:
-        self.assertIn(b'end = 200000\n', bench.generated('timers'))
-        self.assertIn(b'end = 20000\n', bench.generated('timers', 10))
-
 
 class Ratios(unittest.TestCase):
     def test_a_cell_has_both_and_their_ratio(self) -> None:
