@@ -62,12 +62,20 @@ class Checked(unittest.TestCase):
 
     def test_options_that_do_not_go_together_are_refused(self) -> None:
         needed = "motecheck takes <SCENARIO> and <CLAIMS>, or '--report' and <SCENARIO>"
-        delays = "'--late <D,..>' takes 1 to 14 numbers, with commas between them"
-        others = ['', '1,,2', 'x', '1' + 14 * ',1']
+        rising = "'%s <N,..>' takes numbers%s that rise, with commas between them"
+        lists = [(option, '' if option == '--off' else ' from 1 on') for option in ('--late', '--off', '--restarts', '--starts')]
         for words, said in [(['net.toml'], needed), (['--report', 'net.toml', 'claims'], needed),
                             (['--lost', '--fault=mote 0 is silent', 'net.toml', 'claims'],
                              "a survey has neither '--report' nor '--fault <TEXT>'"),
                             (['--lost', '--faults=more', 'net.toml', 'claims'], "a survey has no '--faults <FILE>'"),
-                            *((['--late', it, 'net.toml', 'claims'], delays) for it in others)]:
+                            (['--off=0', '--starts=0', 'net.toml', 'claims'], rising % ('--starts', ' from 1 on')),
+                            *(([option, it, 'net.toml', 'claims'], rising % (option, least)) for option, least in lists
+                              for it in ('', '1,,2', 'x', '4,4', '1,9,5'))]:
             with self.subTest(words=words):
                 self.assertEqual(self.run_check(*words, status=2), REFUSED % said)
+
+    def test_a_copy_has_at_most_15_faults(self) -> None:
+        late = '--late=' + ','.join(map(str, range(1, 16)))
+        self.assertIn('covered: ', self.run_check(late, 'net.toml', 'claims', status=1))
+        self.assertEqual(self.run_check('--lost', late, 'net.toml', 'claims', status=2),
+                         'motecheck: too many faults for a survey\n')

@@ -5,7 +5,8 @@ use Rattle.std.specs.Io.KnownBytes.{Keeps}
 use Rattle.simulation.specs.FaultLines.{AppendsPrefix}
 use Rattle.simulation.specs.Simulation.{Way}
 use Rattle.claim_check.specs.Check.{Checks, Reports}
-use Rattle.claim_check.specs.Command.{Answer, AnswersAsked, Concludes, Ends, Responds, Serves, WritesAnswers, is_survey, plan_for, status_of}
+use Rattle.claim_check.specs.Asked.{is_survey, plan_for}
+use Rattle.claim_check.specs.Command.{Answer, AnswersAsked, Concludes, Ends, Responds, Serves, WritesAnswers, status_of}
 use Rattle.claim_check.specs.FaultLines.{written_line}
 use Rattle.claim_check.specs.Survey.{Plan, Surveys}
 use Rattle.claim_check.specs.declared.answers.Answers.{Answers}
