@@ -1,5 +1,5 @@
 -- The text written for the report of a scenario's net, and the reason why a text was refused.
-use Rattle.std.proofs.Common.{◌≡◌, ℕ, List, [], ◌++◌, Option, Result, Err, ap, sym, ◌∙◌, subst}
+use Rattle.std.proofs.Common.{◌≡◌, ℕ, List, [], ◌++◌, Option, Result, Ok, Err, ap, sym, ◌∙◌, subst}
 use Rattle.net_scenario.specs.Laws.{OneNet}
 use Rattle.mote_net.specs.Net.{NetModel}
 use Rattle.net_scenario.specs.Reading.{TellsNet}
@@ -13,6 +13,7 @@ use Rattle.serial_run.specs.NetRun.{IsReportOf}
 use Rattle.simulation.specs.Input.{IsText}
 use Rattle.simulation.specs.Laws.{OneReport}
 use Rattle.simulation.specs.declared.error.SimError.{SimError}
+use Rattle.simulation.specs.declared.error.SimError.TheVariants as fault
 use Rattle.simulation.specs.Simulation.{IsScenario, Reported, RefusesText, Way, SimulatedWith, SimulatedSome}
 
 -- the text describes this net
@@ -26,12 +27,22 @@ reported written bytes n r short matches ran h = record { from = scenario_of byt
 -- the error of a refused text is the first error in it, or out of memory
 pub refused : (bytes : List ℕ) (e : ScenarioError) → Answers bytes (Err e) → RefusesText bytes e
 refused bytes scenario.Memory h = tt
-refused bytes x h = h
+refused bytes scenario.Toml h = h
+refused bytes scenario.MissingKey h = h
+refused bytes scenario.UnknownKey h = h
+refused bytes scenario.WrongKind h = h
+refused bytes scenario.OutOfRange h = h
+refused bytes scenario.UnknownProgram h = h
+refused bytes (scenario.Program name e) h = h
+refused bytes (scenario.Medium e) h = h
 
 -- a result for a text is a result for some bytes
 pub some_bytes : (way : Way) (bytes : List ℕ) (old new : Option (List ℕ)) (r : Result (Unit {0}) SimError) → SimulatedWith way bytes old new r → SimulatedSome way old new r
+some_bytes way bytes old new (Ok u) h = (bytes, h)
+some_bytes way bytes old new (Err (fault.Scenario e)) h = (bytes, h)
+some_bytes way bytes old new (Err (fault.Run e)) h = (bytes, h)
+some_bytes way bytes old new (Err (fault.Print e)) h = (bytes, h)
 some_bytes way bytes old new (Err e) h = tt
-some_bytes way bytes old new x h = (bytes, h)
 
 -- two reports of one net have the same text
 same_text : ReportIsOne → (m n : NetModel) (r s : ReportModel) → m ≡ n → IsReportOf m r → IsReportOf n s → report_text m r ≡ report_text n s

@@ -9,9 +9,10 @@ use Rattle.simulation.specs.Laws.{ScenarioHasReport}
 
 pub scenario_has_report : ReportIsThere → ScenarioHasReport
 scenario_has_report there text n tells =
+    let top = tells.0.top in
     let is = tells.1 in
     let fault : medium_fault n.radio ≡ None = ap (λ (x : NetModel). medium_fault x.radio) is.matches ∙ is.medium in
-    let motes = tables_at (codes "mote") tells.0.top in
+    let motes = tables_at (codes "mote") top in
     let places : length n.radio.places ≡ length n.motes =
     ap (λ (x : NetModel). length x.radio.places) is.matches
     ∙ (length-map motes _ ∙ (sym (length-map motes _) ∙ sym (ap (λ (x : NetModel). length x.motes) is.matches))) in
