@@ -62,12 +62,14 @@ class Checked(unittest.TestCase):
 
     def test_options_that_do_not_go_together_are_refused(self) -> None:
         needed = "motecheck takes <SCENARIO> and <CLAIMS>, or '--report' and <SCENARIO>"
-        delays = "'--late <D,..>' takes 1 to 14 numbers, with commas between them"
-        others = ['', '1,,2', 'x', '1' + 14 * ',1']
+        rising = "'--%s <N,..>' takes numbers%s that rise, with commas between them"
+        others = ['', '1,,2', 'x', '2,1', '1,1', '4294967296']
         for words, said in [(['net.toml'], needed), (['--report', 'net.toml', 'claims'], needed),
                             (['--lost', '--fault=mote 0 is silent', 'net.toml', 'claims'],
                              "a survey has neither '--report' nor '--fault <TEXT>'"),
                             (['--lost', '--faults=more', 'net.toml', 'claims'], "a survey has no '--faults <FILE>'"),
-                            *((['--late', it, 'net.toml', 'claims'], delays) for it in others)]:
+                            *(([option, it, 'net.toml', 'claims'], rising % (option[2:], ' from 1 on' * not_0))
+                              for option, not_0 in (('--late', 1), ('--off', 0), ('--restarts', 1), ('--starts', 1))
+                              for it in [*others, *['0'] * not_0])]:
             with self.subTest(words=words):
                 self.assertEqual(self.run_check(*words, status=2), REFUSED % said)

@@ -51,7 +51,7 @@ NETS: dict[str, tuple[tuple[tuple[int, int], ...], str, tuple[str, str]]] = {
     'three in a line that tell': (LINE, TELL, ('', '')),
     'two that tell often': (PAIR, TELL, ('n < 2', 'n < 3')),
 }
-KINDS = ['--links', '--silent', '--lost', '--late=1,4']
+KINDS = ['--links', '--silent', '--lost', '--late=1,4', '--off=11', '--restarts=5,11', '--starts=11']
 NEED = "error: '--at-most <K>' and '--runs <N>' need a survey"
 
 
@@ -83,8 +83,9 @@ class Runs:
 
     def fixed(self) -> set[str]:
         """The faults of links and motes."""
-        motes = range(self.scenario.motes)
-        return {'mote %d is silent' % it for it in motes} | {
+        motes, of_mote = range(self.scenario.motes), ('is silent', 'is off from 11 on', 'restarts at 5',
+                                                      'restarts at 11', 'is off from 0 to 11')
+        return {'mote %d %s' % (it, what) for it in motes for what in of_mote} | {
             'link %d to %d is broken' % (s, r) for s in motes for r in self.scenario.hearers(s)}
 
     def smallest(self, most: int, is_wanted: Callable[[str], bool] = lambda fault: True) -> list[set[frozenset[str]]]:

@@ -65,35 +65,20 @@ module _ (way : Way) (s f : List ℕ) (net : NetModel) (is_text : IsText s) (tel
   refuses_faults e h = record { from = scenario_of s net is_text tells; refused = h }
 
   by_memory : (e : SimError) → RefusesFaultsOf net f (check.Simulation e) → LacksRun way s f (check.Simulation e)
-  by_memory fault.Read h = absurd h
-  by_memory fault.TooLong h = absurd h
-  by_memory fault.NotText h = absurd h
-  by_memory (fault.Scenario e) h = absurd h
-  by_memory (fault.Run e) h = absurd h
-  by_memory (fault.Print e) h = absurd h
   by_memory fault.Memory h = tt
+  by_memory e h = absurd h
 
   pub checks_no_faults : (c : List ℕ) (e : CheckError) → RefusesFaultsOf net f e → Checks way s c f (Err e)
   checks_no_faults c (check.Simulation e) h = by_memory e h
-  checks_no_faults c (check.Input e) h = absurd h
-  checks_no_faults c (check.Claims e) h = absurd h
-  checks_no_faults c (check.FaultsInput e) h = absurd h
   checks_no_faults c (check.Faults e) h = refuses_faults (check.Faults e) h
   checks_no_faults c (check.NotInNet number) h = refuses_faults (check.NotInNet number) h
-  checks_no_faults c check.TooManyClaims h = absurd h
-  checks_no_faults c check.TooManyFaults h = absurd h
-  checks_no_faults c (check.Print e) h = absurd h
+  checks_no_faults c e h = absurd h
 
   pub reports_no_faults : (old new : Option (List ℕ)) (e : CheckError) → RefusesFaultsOf net f e → Keeps old new → Reports way s f old new (Err e)
   reports_no_faults old new (check.Simulation e) h keeps = (by_memory e h, keeps)
-  reports_no_faults old new (check.Input e) h keeps = absurd h
-  reports_no_faults old new (check.Claims e) h keeps = absurd h
-  reports_no_faults old new (check.FaultsInput e) h keeps = absurd h
   reports_no_faults old new (check.Faults e) h keeps = (refuses_faults (check.Faults e) h, keeps)
   reports_no_faults old new (check.NotInNet number) h keeps = (refuses_faults (check.NotInNet number) h, keeps)
-  reports_no_faults old new check.TooManyClaims h keeps = absurd h
-  reports_no_faults old new check.TooManyFaults h keeps = absurd h
-  reports_no_faults old new (check.Print e) h keeps = absurd h
+  reports_no_faults old new e h keeps = absurd h
 
   -- the report's text is written as far as `written` says
   pub reported : (written : List ℕ → Type 0) (chosen : List Fault) (r : ReportModel) → AreFaultsOf net f chosen → IsReportWith chosen net r → written (report_text net r) → Reported s f written

@@ -5,7 +5,8 @@ use Rattle.std.specs.Io.KnownBytes.{Keeps}
 use Rattle.simulation.specs.FaultLines.{AppendsPrefix}
 use Rattle.simulation.specs.Simulation.{Way}
 use Rattle.claim_check.specs.Check.{Checks, Reports}
-use Rattle.claim_check.specs.Command.{Answer, AnswersAsked, Concludes, Ends, Responds, Serves, WritesAnswers, is_survey, plan_for, status_of}
+use Rattle.claim_check.specs.Asked.{is_survey, plan_for}
+use Rattle.claim_check.specs.Command.{Answer, AnswersAsked, Concludes, Ends, Responds, Serves, WritesAnswers, status_of}
 use Rattle.claim_check.specs.FaultLines.{written_line}
 use Rattle.claim_check.specs.Survey.{Plan, Surveys}
 use Rattle.claim_check.specs.declared.answers.Answers.{Answers}
@@ -35,15 +36,8 @@ module _ (way : Way) (options : Options) (s c f : List ℕ) where
 
   -- without answers, nothing is written
   pub failed : (old new : Option (List ℕ)) (e : CheckError) → AnswersAsked way options s c f (Err e) → Keeps old new → WritesAnswers way options s c f old new (Err e)
-  failed old new (check.Simulation e) h keeps = (h, keeps)
-  failed old new (check.Input e) h keeps = (h, keeps)
-  failed old new (check.Claims e) h keeps = (h, keeps)
-  failed old new (check.FaultsInput e) h keeps = (h, keeps)
-  failed old new (check.Faults e) h keeps = (h, keeps)
-  failed old new (check.NotInNet number) h keeps = (h, keeps)
-  failed old new check.TooManyClaims h keeps = (h, keeps)
-  failed old new check.TooManyFaults h keeps = (h, keeps)
   failed old new (check.Print e) h keeps = absurd (neither (is_survey options) h)
+  failed old new e h keeps = (h, keeps)
 
   -- the answers are written as far as `written` says
   pub answered : (written : List ℕ → Type 0) (bytes : List ℕ) (a : Answers) → AnswersAsked way options s c f (Ok a)

@@ -7,7 +7,8 @@ use Rattle.clap.specs.declared.error.kind.ErrorKind.{ErrorKind}
 use Rattle.simulation.specs.FaultLines.{AppendsPrefix}
 use Rattle.simulation.specs.Reads.{IsInputFault}
 use Rattle.simulation.specs.declared.input.InputError.{InputError}
-use Rattle.claim_check.specs.Command.{Ends, Responds, Serves, is_in_conflict, status_of, status_of_words}
+use Rattle.claim_check.specs.Asked.{is_in_conflict}
+use Rattle.claim_check.specs.Command.{Ends, Responds, Serves, status_of, status_of_words}
 use Rattle.claim_check.specs.FaultLines.{written_line}
 use Rattle.claim_check.specs.Input.{ServesInput, ServesText, claims_in, scenario_in}
 use Rattle.claim_check.specs.Words.{AsksOptions, FaultOf, options_app}

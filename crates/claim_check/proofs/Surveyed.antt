@@ -33,45 +33,26 @@ many_lines names cs c read many = subst (λ n. 2 ^ 16 ≤ n) (sym (length-map cs
 -- a net whose faults are refused has no survey
 module _ (way : Way) (plan : Plan) (names : List (List ℕ)) (net : NetModel) (cs : List Claim) where
   by_memory : (e : SimError) → RefusesFaults plan net cs (check.Simulation e) → SurveysNet way plan names net cs (Err (check.Simulation e))
-  by_memory fault.Read h = absurd h
-  by_memory fault.TooLong h = absurd h
-  by_memory fault.NotText h = absurd h
-  by_memory (fault.Scenario e) h = absurd h
-  by_memory (fault.Run e) h = absurd h
-  by_memory (fault.Print e) h = absurd h
   by_memory fault.Memory h = tt
+  by_memory e h = absurd h
 
   pub not_tried : (e : CheckError) → RefusesFaults plan net cs e → SurveysNet way plan names net cs (Err e)
   not_tried (check.Simulation e) h = by_memory e h
-  not_tried (check.Input e) h = absurd h
-  not_tried (check.Claims e) h = absurd h
-  not_tried (check.FaultsInput e) h = absurd h
-  not_tried (check.Faults e) h = absurd h
-  not_tried (check.NotInNet number) h = absurd h
   not_tried check.TooManyClaims h = h
   not_tried check.TooManyFaults h = h
-  not_tried (check.Print e) h = absurd h
+  not_tried e h = absurd h
 
 -- the survey of a scenario's net is one of the scenario
 module _ (way : Way) (plan : Plan) (s c : List ℕ) (names : List (List ℕ)) (net : NetModel) (cs : List Claim) (is_text : IsText s) (tells : TellsNet s net) (named : AreNames net names)
     (read : map (text_of names) cs ≡ claim_lines c) where
   by_fault : (e : SimError) → SurveysNet way plan names net cs (Err (check.Simulation e)) → Surveys way plan s c (Err (check.Simulation e))
-  by_fault fault.Read h = absurd h
-  by_fault fault.TooLong h = absurd h
-  by_fault fault.NotText h = absurd h
-  by_fault (fault.Scenario e) h = absurd h
   by_fault (fault.Run e) h = (scenario_of s net is_text tells, h)
-  by_fault (fault.Print e) h = absurd h
   by_fault fault.Memory h = tt
+  by_fault e h = absurd h
 
   pub surveys : (r : Result Answers CheckError) → SurveysNet way plan names net cs r → Surveys way plan s c r
   surveys (Ok a) h = (h.0, surveyed plan s c a net names cs is_text tells named read h.1)
   surveys (Err (check.Simulation e)) h = by_fault e h
-  surveys (Err (check.Input e)) h = absurd h
-  surveys (Err (check.Claims e)) h = absurd h
-  surveys (Err (check.FaultsInput e)) h = absurd h
-  surveys (Err (check.Faults e)) h = absurd h
-  surveys (Err (check.NotInNet number)) h = absurd h
   surveys (Err check.TooManyClaims) h = (scenario_of s net is_text tells, many_lines names cs c read h)
   surveys (Err check.TooManyFaults) h = too_many_faults plan s net is_text tells h
-  surveys (Err (check.Print e)) h = absurd h
+  surveys (Err e) h = absurd h

@@ -40,8 +40,8 @@ AreAnswers names r [] text = text ≡ []
 AreAnswers names r (c ∷ cs) text =
     (line : List ℕ) × (rest : List ℕ) × IsAnswer names r c line × AreAnswers names r cs rest × (text ≡ line ++ rest)
 
--- the text answers the claims in some lines about the report of the scenario with the faults in a text; it says which of
--- these faults have no effect, and whether all claims hold
+-- the text answers the claims in some lines about the report of the scenario with the faults in a text, says which of
+-- these faults name no copy in it, and whether all claims hold
 pub record Answered (scenario claims faults text : List ℕ) (all_hold : Bool) : Type 0 where
   pub from : IsScenario scenario
   pub chosen : List Fault

@@ -1,82 +1,24 @@
 -- The effect of the command with its arguments, and the exit status that it returns.
-use Rattle.std.specs.Prelude.{◌≡◌, ◌≢◌, ◌⊎◌, ◌==◌, ◌&&◌, ◌||◌, ℕ, List, Bool, true, false, not, Option, Result, Ok, Err}
-use Rattle.std.specs.declared.alloc.Global.{Global}
-use Rattle.std.specs.Prelude.{Some, None, Vec, [], ◌∷◌, ◌++◌, map, nat_lt, if◌then◌else◌, is_none, is_some, length, string_bytes, unwrap_or, IfErr, IfOk}
+use Rattle.std.specs.Prelude.{◌≡◌, ◌≢◌, ◌⊎◌, ℕ, List, [], ◌++◌, Bool, true, false, Option, Result, Ok, Err}
+use Rattle.std.specs.Prelude.{is_none, string_bytes, IfErr, IfOk}
 use Rattle.std.specs.Bool.{MatchBool}
 use Rattle.std.specs.Io.KnownBytes.{Appends, Keeps}
 use Rattle.clap.specs.declared.error.kind.ErrorKind.{ErrorKind}
 use Rattle.clap.specs.declared.error.kind.ErrorKind.TheVariants as kind
 use Rattle.trace_printer.specs.Output.{AppendsFront}
-use Rattle.window_workers.specs.declared.sync.SyncKind.TheVariants as sync
 use Rattle.simulation.specs.FaultLines.{AppendsPrefix}
 use Rattle.simulation.specs.declared.error.SimError.TheVariants as fault
-use Rattle.net_survey.specs.declared.candidates.Kinds.{Kinds}
-use Rattle.fault_keys.specs.declared.keys.CopyFault.{CopyFault}
-use Rattle.fault_keys.specs.declared.keys.CopyFault.TheVariants.{Lost, Late}
-use Rattle.simulation.specs.Simulation.{Way, way_by}
+use Rattle.simulation.specs.Simulation.{Way}
+use Rattle.claim_check.specs.Asked.{are_in_conflict, is_survey, plan_for, way_for}
 use Rattle.claim_check.specs.Check.{Checks, Reports}
 use Rattle.claim_check.specs.FaultLines.{written_line}
-use Rattle.claim_check.specs.Survey.{Plan, Surveys}
+use Rattle.claim_check.specs.Survey.{Surveys}
 use Rattle.claim_check.specs.declared.answers.Answers.{Answers}
 use Rattle.claim_check.specs.Words.{AsksFor, FaultOf, motecheck_app}
 use Rattle.claim_check.specs.declared.command_line.Asked.{Asked}
 use Rattle.claim_check.specs.declared.command_line.Options.{Options}
 use Rattle.claim_check.specs.declared.error.CheckError.{CheckError}
 use Rattle.claim_check.specs.declared.error.CheckError.TheVariants as check
-
--- a survey is asked for
-abbrev pub is_survey : Options → Bool
-is_survey options = options.links || options.silent || options.lost || is_some options.late
-
--- a survey has neither a report nor faults of its own
-abbrev pub is_mixed : Options → Bool
-is_mixed options = is_survey options && (options.report || not (length (string_bytes options.faults) == 0))
-
--- options of a survey are given, but no survey is asked for
-abbrev pub lacks_survey : Options → Bool
-lacks_survey options = not (is_survey options) && (is_some options.at_most || is_some options.runs)
-
-abbrev pub delays_of : Option (Vec ℕ Global) → List ℕ
-delays_of None = []
-delays_of (Some delays) = delays.items
-
--- the numbers of moments aren't read, or are too many
-abbrev pub lacks_delays : Options → Bool
-lacks_delays options =
-    is_some options.late && not (nat_lt 0 (length (delays_of options.late)) && nat_lt (length (delays_of options.late)) 15)
-
-abbrev pub is_in_conflict : Options → Bool
-is_in_conflict options = is_mixed options || (lacks_survey options || lacks_delays options)
-
--- claims are needed, but not for a report
-abbrev pub lacks_claims : Asked → Bool
-lacks_claims asked = if asked.options.report then is_some asked.claims else is_none asked.claims
-
--- a survey has no file of faults
-abbrev pub is_mixed_with_file : Asked → Bool
-is_mixed_with_file asked = is_survey asked.options && is_some asked.faults
-
-abbrev pub are_files_in_conflict : Asked → Bool
-are_files_in_conflict asked = lacks_claims asked || is_mixed_with_file asked
-
-abbrev pub are_in_conflict : Asked → Bool
-are_in_conflict asked = is_in_conflict asked.options || are_files_in_conflict asked
-
-abbrev pub kinds_of : Options → Kinds
-kinds_of options = record { links = options.links; silent = options.silent }
-
--- what may happen to each copy
-abbrev pub copies_of : Options → List CopyFault
-copies_of options = (if options.lost then Lost ∷ [] else []) ++ map Late (delays_of options.late)
-
--- the sets of faults that are asked for: of at most one fault, if nothing else is said, and without a limit of runs
-abbrev pub plan_for : Options → Plan
-plan_for options = record {
-  kinds = kinds_of options;
-  copies = copies_of options;
-  at_most = unwrap_or options.at_most 1;
-  runs = unwrap_or options.runs 18446744073709551615;
-}
 
 -- the result of what the options ask for: a survey, or a check of one run
 abbrev pub AnswersAsked : Way → Options → (scenario claims faults : List ℕ) → Result Answers CheckError → Type 0
@@ -105,10 +47,6 @@ abbrev pub Responds :
 Responds way options s c f old new r =
     MatchBool options.report (Reports way s f old new r) (WritesAnswers way options s c f old new r)
 
--- the way to run a net with these options
-abbrev pub way_for : Options → Way
-way_for options = way_by options.workers sync.Joins
-
 -- the errors of reading a file: it can't be read, is too long, or isn't a text; or an allocation failed
 abbrev pub IsReadError : CheckError → Type 0
 IsReadError (check.Input e) = Unit {0}
@@ -123,12 +61,18 @@ IsReadError e = ⊥
 abbrev pub LacksFile : (old new : Option (List ℕ)) → Result Bool CheckError → Type 0
 LacksFile old new r = (e : CheckError) × (r ≡ Err e) × IsReadError e × Keeps old new
 
+-- the text has the faults of the options, and more of them if there is a file of faults
+pub record AreAllFaults (asked : Asked) (faults : List ℕ) : Type 0 where
+  pub more : List ℕ
+  pub only_options : is_none asked.faults ≡ true → more ≡ []
+  pub all : faults ≡ string_bytes asked.options.faults ++ more
+
 -- the result for some texts of a scenario, claims and faults, as the contents of files aren't known
 pub record RespondsSome (asked : Asked) (old new : Option (List ℕ)) (r : Result Bool CheckError) : Type 0 where
   pub scenario : List ℕ
   pub claims : List ℕ
   pub faults : List ℕ
-  pub only_options : is_none asked.faults ≡ true → faults ≡ string_bytes asked.options.faults
+  pub all_faults : AreAllFaults asked faults
   pub responds : Responds (way_for asked.options) asked.options scenario claims faults old new r
 
 -- the result for some texts; or a file wasn't read

@@ -6,7 +6,8 @@ use Rattle.std.specs.Io.KnownBytes.{Keeps}
 use Rattle.clap.specs.declared.error.kind.ErrorKind.{ErrorKind}
 use Rattle.simulation.specs.Reads.{IsInputFault}
 use Rattle.simulation.specs.declared.input.InputError.{InputError}
-use Rattle.claim_check.specs.Command.{Concludes, Ends, RefusesWords, Responds, Serves, is_in_conflict}
+use Rattle.claim_check.specs.Asked.{is_in_conflict}
+use Rattle.claim_check.specs.Command.{Concludes, Ends, RefusesWords, Responds, Serves}
 use Rattle.claim_check.specs.Words.{AsksOptions, FaultOf, options_app}
 use Rattle.claim_check.specs.declared.command_line.Options.{Options}
 use Rattle.claim_check.specs.declared.error.CheckError.{CheckError}

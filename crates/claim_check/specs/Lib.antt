@@ -1,3 +1,4 @@
+pub mod Asked
 pub mod Check
 pub mod Command
 pub mod FaultLines

@@ -5,7 +5,7 @@ use Rattle.claims.specs.declared.claim.Claim.{Claim}
 use Rattle.claim_text.specs.ClaimText.{text_of}
 use Rattle.claim_text.specs.ClaimLines.{claim_lines}
 use Rattle.net_survey.specs.Candidates.{fixed_faults}
-use Rattle.net_survey.specs.declared.candidates.Kinds.{Kinds}
+use Rattle.net_survey.specs.declared.candidates.MoteFault.{MoteFault}
 use Rattle.radio_faults.specs.declared.fault.Fault.{Fault}
 use Rattle.fault_keys.specs.declared.keys.Candidates.{Candidates}
 use Rattle.fault_keys.specs.declared.keys.CopyFault.{CopyFault}
@@ -22,25 +22,32 @@ use Rattle.claim_check.specs.Names.{AreNames}
 use Rattle.claim_check.specs.declared.answers.Answers.{Answers}
 use Rattle.claim_check.specs.declared.error.CheckError.{CheckError}
 use Rattle.claim_check.specs.declared.error.CheckError.TheVariants as check
-use Rattle.claim_check.specs.declared.surveying.Faults.{Faults}
+use Rattle.claim_check.specs.declared.plan.Faults.{Faults}
 
--- the sets of faults that a survey tries: of faults of these kinds, and of these faults of single copies
+-- the sets of faults that a survey tries: of broken links, if they are chosen, and of these faults of single motes and copies
 pub record Plan : Type 0 where
-  pub kinds : Kinds
+  pub links : Bool
+  pub motes : List MoteFault
   pub copies : List CopyFault
   pub at_most : ℕ
   pub runs : ℕ
 
 abbrev pub plan_of : Faults → Plan
-plan_of f = record { kinds = f.kinds; copies = f.copies.now; at_most = f.at_most; runs = f.runs }
+plan_of f = record {
+  links = f.links;
+  motes = f.motes.items;
+  copies = f.copies.items;
+  at_most = f.at_most;
+  runs = f.runs;
+}
 
 -- the number of runs at a time plays no part in what is found
 abbrev pub limits_of : Plan → Limits
 limits_of plan = record { faults = plan.at_most; trials = plan.runs; at_a_time = 2048 }
 
--- the faults of these kinds in a net
+-- the faults in a net that don't depend on its run
 abbrev pub faults_in : Plan → NetModel → List Fault
-faults_in plan net = fixed_faults plan.kinds net.radio
+faults_in plan net = fixed_faults plan.links plan.motes net.radio
 
 -- each set was tried or needed no run, and none breaks a claim
 abbrev pub is_settled : Limits → Survey → Bool

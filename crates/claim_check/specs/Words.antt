@@ -1,7 +1,7 @@
 -- The request or the error of a command line. `clap` finds matches or errors, and these determine the result.
 use Rattle.std.specs.Prelude.{◌≡◌, ◌⊎◌, ℕ, pos, Bool, true, false, List, [], ◌∷◌, ◌++◌, Option, Some, None, codes, option_map}
 use Rattle.std.specs.Prelude.{string_bytes, unwrap_or, ◌<◌, ◌^◌, ◌==◌, Vec, map}
-use Rattle.std.specs.List.{flat_map, slice_split}
+use Rattle.std.specs.List.{AllByRecursion, flat_map, slice_split}
 use Rattle.std.specs.declared.alloc.Global.{Global}
 use Rattle.std.specs.Str.Parse.{ParsesUnsigned, ExplainsUnsignedError, HasUnsignedDigitsIfOk}
 use Rattle.std.specs.Str.Parse.{IsNumeral, digits_value, without_leading_plus}
@@ -17,17 +17,21 @@ use Rattle.simulation.specs.Words.{ReadsWorkers, workers_rule}
 use Rattle.claim_check.specs.declared.command_line.Asked.{Asked}
 use Rattle.claim_check.specs.declared.command_line.Options.{Options}
 
--- a file that must be named
-abbrev pub file_rule : (name : Text) → Rule
-file_rule name = record (new_rule name) { required = true }
-
 -- an option without a value
 abbrev pub flag_rule : (name : Text) → Rule
 flag_rule name = record (new_rule name) { long = Some name; action = Some SetTrue }
 
+-- an option with a value
+abbrev pub value_rule : (name : Text) → Rule
+value_rule name = record (new_rule name) { long = Some name; value_names = 1 }
+
 -- an option with a number
 abbrev pub number_rule : (name : Text) → ValueParser → Rule
-number_rule name parser = record (new_rule name) { long = Some name; value_names = 1; parser = Some parser }
+number_rule name parser = record (value_rule name) { parser = Some parser }
+
+-- `--fault TEXT`, several times
+abbrev pub fault_rule : Rule
+fault_rule = record (value_rule (codes "fault")) { action = Some Append }
 
 -- `--at-most K`, from 0 to 255
 abbrev pub at_most_rule : Rule
@@ -37,37 +41,40 @@ at_most_rule = number_rule (codes "at-most") (parser.Signed (pos 0) (pos 255))
 abbrev pub runs_rule : Rule
 runs_rule = number_rule (codes "runs") (parser.Unsigned 0 18446744073709551615)
 
--- `--fault TEXT`, several times
-abbrev pub fault_rule : Rule
-fault_rule = record (new_rule (codes "fault")) { long = Some (codes "fault"); value_names = 1; action = Some Append }
-
--- `--faults FILE`
-abbrev pub faults_rule : Rule
-faults_rule = record (new_rule (codes "faults")) { long = Some (codes "faults"); value_names = 1 }
-
--- `--late D,..`
-abbrev pub late_rule : Rule
-late_rule = record (new_rule (codes "late")) { long = Some (codes "late"); value_names = 1 }
+-- a file
+abbrev pub file_rule : (name : Text) → (required : Bool) → Rule
+file_rule name required = record (new_rule name) { required = required }
 
 abbrev pub line_of : Text → Text
 line_of text = text ++ 10 ∷ []
 
+abbrev pub with_rules : App → List Rule → App
+with_rules app [] = app
+with_rules app (rule ∷ rules) = with_rules (with_rule app rule) rules
+
 -- a command with options for one run, and with a version: `motecheck [--fault TEXT].. [--report] [--workers N]`
 abbrev pub run_app : App
 run_app =
-    with_rule (with_rule (with_rule (on_top (λ s. record s { has_version = true }) (new_app (codes "motecheck"))) fault_rule)
-    (flag_rule (codes "report"))) workers_rule
+    with_rules (on_top (λ s. record s { has_version = true }) (new_app (codes "motecheck")))
+    (fault_rule ∷ flag_rule (codes "report") ∷ workers_rule ∷ [])
 
--- with those for a survey, too: `[--links] [--silent] [--lost] [--late D,..] [--at-most K] [--runs N]`
+-- with the kinds of faults that a survey may try: `[--links] [--silent] [--lost] [--late N,..] [--off N,..]
+-- [--restarts N,..] [--starts N,..]`
+abbrev pub kinds_app : App
+kinds_app =
+    with_rules run_app
+    (flag_rule (codes "links") ∷ flag_rule (codes "silent") ∷ flag_rule (codes "lost") ∷ value_rule (codes "late")
+    ∷ value_rule (codes "off") ∷ value_rule (codes "restarts") ∷ value_rule (codes "starts") ∷ [])
+
+-- with all options, but no files: `.. [--at-most K] [--runs N]`
 abbrev pub options_app : App
-options_app =
-    with_rule (with_rule (with_rule (with_rule (with_rule (with_rule run_app (flag_rule (codes "links")))
-    (flag_rule (codes "silent"))) (flag_rule (codes "lost"))) late_rule) at_most_rule) runs_rule
+options_app = with_rules kinds_app (at_most_rule ∷ runs_rule ∷ [])
 
--- the command as `clap` reads it: the options and the files, `motecheck .. SCENARIO CLAIMS`
+-- the command as `clap` reads it: the options and the files, `motecheck .. [--faults FILE] SCENARIO [CLAIMS]`
 abbrev pub motecheck_app : App
 motecheck_app =
-    with_rule (with_rule (with_rule options_app faults_rule) (file_rule (codes "SCENARIO"))) (new_rule (codes "CLAIMS"))
+    with_rules options_app
+    (value_rule (codes "faults") ∷ file_rule (codes "SCENARIO") true ∷ file_rule (codes "CLAIMS") false ∷ [])
 
 -- the flag was given or not
 abbrev pub ReadsFlag : Option Text → Bool → Type 0
@@ -83,27 +90,23 @@ ReadsNumber bits (Some text) number =
     text number
 
 -- the text is a number below 2 ^ 32
-abbrev pub IsDelay : Text → Type 0
-IsDelay text =
-    IsNumeral 10 (without_leading_plus text) × (digits_value 10 (without_leading_plus text) < 2 ^ 32)
+abbrev pub IsNumber : Text → Type 0
+IsNumber text = IsNumeral 10 (without_leading_plus text) × (digits_value 10 (without_leading_plus text) < 2 ^ 32)
 
-abbrev pub delay_in : Text → ℕ
-delay_in text = digits_value 10 (without_leading_plus text)
-
-abbrev pub AreDelays : List Text → Type 0
-AreDelays [] = Unit {0}
-AreDelays (text ∷ texts) = IsDelay text × AreDelays texts
+abbrev pub number_in : Text → ℕ
+number_in text = digits_value 10 (without_leading_plus text)
 
 -- these are the numbers in some texts, or there are none, since one of the texts isn't a number
-abbrev pub ReadsDelays : List Text → List ℕ → Type 0
-ReadsDelays texts delays = (AreDelays texts × (delays ≡ map delay_in texts)) ⊎ ((¬ AreDelays texts) × (delays ≡ []))
+abbrev pub ReadsNumbers : List Text → List ℕ → Type 0
+ReadsNumbers texts numbers = (AllByRecursion IsNumber texts × (numbers ≡ map number_in texts))
+    ⊎ ((¬ AllByRecursion IsNumber texts) × (numbers ≡ []))
 
--- the numbers in the value of `--late`, with commas between them
-abbrev pub ReadsLate : Option Text → Option (Vec ℕ Global) → Type 0
-ReadsLate None None = Unit {0}
-ReadsLate None (Some delays) = ⊥
-ReadsLate (Some text) None = ⊥
-ReadsLate (Some text) (Some delays) = ReadsDelays (slice_split (λ byte. byte == 44) text) delays.items
+-- the numbers in the value of an option, with commas between them
+abbrev pub ReadsList : Option Text → Option (Vec ℕ Global) → Type 0
+ReadsList None None = Unit {0}
+ReadsList None (Some numbers) = ⊥
+ReadsList (Some text) None = ⊥
+ReadsList (Some text) (Some numbers) = ReadsNumbers (slice_split (λ byte. byte == 44) text) numbers.items
 
 -- these are the options, if `clap` found these values
 pub record OptionsIn (rows : List Row) (options : Options) : Type 0 where
@@ -113,7 +116,10 @@ pub record OptionsIn (rows : List Row) (options : Options) : Type 0 where
   pub links : ReadsFlag (one_of (codes "links") rows) options.links
   pub silent : ReadsFlag (one_of (codes "silent") rows) options.silent
   pub lost : ReadsFlag (one_of (codes "lost") rows) options.lost
-  pub late : ReadsLate (first_of (codes "late") rows) options.late
+  pub late : ReadsList (first_of (codes "late") rows) options.late
+  pub off : ReadsList (first_of (codes "off") rows) options.off
+  pub restarts : ReadsList (first_of (codes "restarts") rows) options.restarts
+  pub starts : ReadsList (first_of (codes "starts") rows) options.starts
   pub at_most : ReadsNumber 8 (one_of (codes "at-most") rows) options.at_most
   pub runs : ReadsNumber 64 (one_of (codes "runs") rows) options.runs
 

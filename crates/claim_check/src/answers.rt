@@ -66,7 +66,7 @@ fn answers_to(
     Ok(Answers { text, all_hold })
 }
 
-/// Answers the claims about the report of a run with faults, and says which faults have no effect.
+/// Answers the claims about the report of a run with faults, and says which faults name no copy in it.
 ///
 /// # Errors
 /// If an allocation failed.

@@ -1,32 +1,29 @@
-//! The command. It reads a scenario and claims from two files, and writes the answers to standard output; the line of an
-//! error, and the progress of a survey, go to standard error.
-ghost use Rattle.std.specs.Prelude.{◌≡◌, ◌≢◌, ◌≤◌, ◌++◌, ◌∷◌, [], None, if◌then◌else◌, is_none, is_some, map, true, IfErr, IfOk, OnOk, string_bytes, string_len};
+//! The command. It reads a scenario, claims and faults from files, and writes the answers to standard output; the line of
+//! an error, and the progress of a survey, go to standard error.
+ghost use Rattle.std.specs.Prelude.{◌≡◌, ◌≢◌, ◌≤◌, [], None, is_none, true, IfErr, IfOk, OnOk, string_bytes, string_len};
 ghost use Rattle.std.specs.Io.KnownBytes.{Keeps};
 ghost use Rattle.clap.specs.Words.{kind_of};
 ghost use Rattle.net_scenario.specs.Limits.{longest_text};
 ghost use Rattle.simulation.specs.FaultLines.{AppendsPrefix};
 ghost use Rattle.simulation.specs.Words.{texts_of};
 ghost use Rattle.simulation.specs.Input.{IsText};
+ghost use Rattle.claim_check.specs.Asked.{are_in_conflict, is_in_conflict, way_for};
 ghost use Rattle.claim_check.specs.FaultLines.{written_line};
-ghost use Rattle.claim_check.specs.Command.{AnswersAsked, ChecksSome, Commands, IsReadError, Responds, Serves};
-ghost use Rattle.claim_check.specs.Command.{WritesAnswers, ends};
-ghost use Rattle.claim_check.specs.Command.{are_files_in_conflict, are_in_conflict, copies_of, delays_of, is_in_conflict};
-ghost use Rattle.claim_check.specs.Command.{is_mixed, is_mixed_with_file, is_survey, lacks_claims, lacks_delays, lacks_survey, plan_for};
-ghost use Rattle.claim_check.specs.Command.{status_of, status_of_words, way_for};
-ghost use Rattle.claim_check.specs.Survey.{plan_of};
-ghost use Rattle.fault_keys.specs.declared.keys.CopyFault.TheVariants.{Lost, Late};
+ghost use Rattle.claim_check.specs.Command.{AnswersAsked, AreAllFaults, ChecksSome, Commands, IsReadError, Responds, Serves};
+ghost use Rattle.claim_check.specs.Command.{WritesAnswers, ends, status_of, status_of_words};
 ghost use Rattle.claim_check.specs.declared.error.CheckError.TheVariants as check;
 
 use crate::answers::Answers;
 use crate::checking::{check, check_serial, report, report_serial};
 use crate::command_line::{Asked, Options, asked_by};
+use crate::conflicts::{conflict_in, conflict_of};
 use crate::error::CheckError;
 use crate::fault_line::report_fault;
 use crate::output::write_bytes;
+use crate::plan::{faults_of, is_survey};
 use crate::progress::Told;
-use crate::surveying::{Faults, check_serial_with_faults, check_with_faults};
+use crate::surveying::{check_serial_with_faults, check_with_faults};
 use clap::error::ErrorKind;
-use net_survey::{CopyFault, Kinds};
 use simulation::{InputError, SimError, read_text};
 use std::alloc::{AllocError, Global};
 use std::fs;
@@ -36,9 +33,6 @@ use std::rt::Files;
 use std::sync::Wait;
 use std::thread::Threads;
 use window_workers::{Gate, NoGate};
-
-/// A survey takes fewer numbers of moments by which copies are late.
-const TOO_MANY_DELAYS: usize = 15;
 
 /// Returns the exit status of a check: 0 if all claims hold, 1 if not, or 2 after an error. After an error, nothing is
 /// written to `errors` but the line that reports the error, or a prefix of this line; the status is the same if writing
@@ -143,104 +137,13 @@ fn read_faults_file<T: AllocGlobal + Files>(
 /// Returns the text of all faults: those of the options, and those of the file.
 fn all_faults<T: AllocGlobal + Files>(rt: &T, asked: &Asked<'_>) -> Result<String, CheckError>
     ensures refuses { IfErr result IsReadError }
-    ensures only_options { IfOk result
-        (λ text. is_none asked.now.faults ≡ true → string_bytes text ≡ string_bytes asked.now.options.faults) }
+    ensures all_faults { IfOk result (λ text. AreAllFaults asked.now (string_bytes text)) }
 {
     let more = read_faults_file(rt, asked.faults)?;
     let mut text = String::new(rt.alloc());
     text.push_str(asked.options.faults.as_str())?;
     text.push_str(more.as_str())?;
     Ok(text)
-}
-
-/// Returns `true` if a survey is asked for.
-fn is_survey(options: &Options) -> bool
-    ensures value { result ≡ is_survey options.now }
-{
-    options.links || options.silent || options.lost || options.late.is_some()
-}
-
-/// Returns `true` if a survey has options of one run.
-fn is_mixed(options: &Options) -> bool
-    ensures value { result ≡ is_mixed options.now }
-{
-    is_survey(options) && (options.report || !options.faults.is_empty())
-}
-
-/// Returns `true` if options of a survey are given, but no survey is asked for.
-fn lacks_survey(options: &Options) -> bool
-    ensures value { result ≡ lacks_survey options.now }
-{
-    !is_survey(options) && (options.at_most.is_some() || options.runs.is_some())
-}
-
-/// Returns `true` if the numbers of moments weren't read, or are too many.
-fn lacks_delays(options: &Options) -> bool
-    ensures value { result ≡ lacks_delays options.now }
-{
-    match &options.late {
-        Some(delays) => !(0 < delays.len() && delays.len() < TOO_MANY_DELAYS),
-        None => false,
-    }
-}
-
-/// Returns the reason why the options don't go together, if they don't.
-fn conflict_in(options: &Options) -> Option<&'static str>
-    ensures value { is_some result ≡ is_in_conflict options.now }
-{
-    if is_mixed(options) {
-        return Some("a survey has neither '--report' nor '--fault <TEXT>'");
-    }
-    if lacks_survey(options) {
-        return Some(
-            "'--at-most <K>' and '--runs <N>' need a survey: '--links', '--silent', '--lost' or '--late <D,..>'",
-        );
-    }
-    if lacks_delays(options) {
-        return Some("'--late <D,..>' takes 1 to 14 numbers, with commas between them");
-    }
-    None
-}
-
-/// Returns `true` if claims are needed and not given, or given and not needed.
-fn lacks_claims(asked: &Asked<'_>) -> bool
-    ensures value { result ≡ lacks_claims asked.now }
-{
-    if asked.options.report {
-        asked.claims.is_some()
-    } else {
-        asked.claims.is_none()
-    }
-}
-
-/// Returns `true` if a survey has a file of faults.
-fn is_mixed_with_file(asked: &Asked<'_>) -> bool
-    ensures value { result ≡ is_mixed_with_file asked.now }
-{
-    is_survey(&asked.options) && asked.faults.is_some()
-}
-
-/// Returns the reason why the files don't go with the options, if they don't.
-fn conflict_of_files(asked: &Asked<'_>) -> Option<&'static str>
-    ensures value { is_some result ≡ are_files_in_conflict asked.now }
-{
-    if lacks_claims(asked) {
-        return Some("motecheck takes <SCENARIO> and <CLAIMS>, or '--report' and <SCENARIO>");
-    }
-    if is_mixed_with_file(asked) {
-        return Some("a survey has no '--faults <FILE>'");
-    }
-    None
-}
-
-/// Returns the reason why the arguments don't go together, if they don't.
-fn conflict_of(asked: &Asked<'_>) -> Option<&'static str>
-    ensures value { is_some result ≡ are_in_conflict asked.now }
-{
-    match conflict_in(&asked.options) {
-        Some(why) => Some(why),
-        None => conflict_of_files(asked),
-    }
 }
 
 /// Writes that the arguments don't go together, and returns the exit status of an error of the arguments.
@@ -252,65 +155,6 @@ fn refuse_options<E: Write>(why: &str, errors: &mut E) -> u8
         "error: {why}\n\nFor more information, try '--help'."
     );
     2
-}
-
-/// Appends that a copy may be lost.
-fn put_lost(copies: &mut Vec<CopyFault>, is_lost: bool) -> Result<(), AllocError>
-    ensures appended { OnOk result (copies.new.items ≡ copies.old.items ++ (if is_lost then Lost ∷ [] else [])) }
-{
-    if is_lost {
-        copies.push(CopyFault::Lost)?;
-    }
-    Ok(())
-}
-
-/// Appends that a copy may be so late.
-fn put_late(copies: &mut Vec<CopyFault>, delays: &[u32]) -> Result<(), AllocError>
-    ensures appended { OnOk result (copies.new.items ≡ copies.old.items ++ map Late delays.now) }
-{
-    for delay in delays {
-        copies.push(CopyFault::Late(*delay))?;
-    }
-    Ok(())
-}
-
-/// Returns the numbers of moments by which copies are late in a survey.
-fn delays_of(late: &Option<Vec<u32>>) -> &[u32]
-    ensures value { result.now ≡ delays_of late.now }
-{
-    match late {
-        Some(delays) => delays.as_slice(),
-        None => &[],
-    }
-}
-
-/// Returns what may happen to each copy in a survey.
-///
-/// # Errors
-/// If an allocation failed.
-fn copies_of(alloc: Global, options: &Options) -> Result<Vec<CopyFault>, AllocError>
-    ensures value { IfOk result (λ copies. copies.items ≡ copies_of options.now) }
-{
-    let mut copies = Vec::new(alloc);
-    put_lost(&mut copies, options.lost)?;
-    put_late(&mut copies, delays_of(&options.late))?;
-    Ok(copies)
-}
-
-/// Returns the sets of faults that a survey is to try.
-fn faults_of<'a>(options: &Options, copies: &'a [CopyFault]) -> Faults<'a>
-    requires copies { copies.now ≡ copies_of options.now }
-    ensures value { plan_of result ≡ plan_for options.now }
-{
-    Faults {
-        kinds: Kinds {
-            links: options.links,
-            silent: options.silent,
-        },
-        copies,
-        at_most: options.at_most.unwrap_or(1),
-        runs: options.runs.unwrap_or(u64::MAX),
-    }
 }
 
 /// Answers claims about a scenario, as the options ask: about its run, or about its runs with sets of faults.
@@ -333,14 +177,13 @@ where
 {
     if is_survey(options) {
         let told = Told { rt };
-        let copies = copies_of(rt.alloc(), options)?;
-        let faults = faults_of(options, copies.as_slice());
+        let faults = faults_of(rt.alloc(), options)?;
         check_with_faults(
             rt,
             rt.alloc(),
             scenario,
             claims,
-            faults,
+            &faults,
             options.workers,
             &told,
         )
@@ -372,9 +215,8 @@ fn answers_serial(
     ensures answers { AnswersAsked None options.now scenario.now claims.now faults.now result }
 {
     if is_survey(options) {
-        let copies = copies_of(alloc, options)?;
-        let faults = faults_of(options, copies.as_slice());
-        check_serial_with_faults(alloc, scenario, claims, faults)
+        let faults = faults_of(alloc, options)?;
+        check_serial_with_faults(alloc, scenario, claims, &faults)
     } else {
         check_serial(alloc, scenario, claims, faults)
     }
@@ -492,10 +334,11 @@ pub fn answer_serial<W: Write>(
 }
 
 /// Answers the claims in a file about the scenario in another one, as the arguments ask, and returns whether all claims
-/// hold. The clause doesn't say what the files contain: the answers are those to some claims about some scenario.
+/// hold. The clause doesn't say what the files contain: the answers are those to some claims about some scenario, with
+/// some faults after those of the options.
 ///
 /// # Errors
-/// The errors of `answer`, and those of reading the two files.
+/// The errors of `answer`, and those of reading a file.
 pub fn check_asked<T, W, G>(
     rt: &T,
     asked: &Asked<'_>,

@@ -1,12 +1,14 @@
 //! The arguments of the command line, as `clap` reads them.
-ghost use Rattle.std.specs.Prelude.{◌≡◌, ◌==◌, [], codes, false, map, option_map, string_bytes, unwrap_or, IfOk, IfErr};
-ghost use Rattle.std.specs.List.{flat_map, slice_split};
-ghost use Rattle.clap.specs.Words.{app_of, found_of, kind_of, new_rule, rows_of, rule_of};
+ghost use Rattle.std.specs.Prelude.{◌≡◌, [], false, option_map, string_bytes, unwrap_or, IfOk, IfErr};
+ghost use Rattle.std.specs.List.{flat_map};
+ghost use Rattle.clap.specs.Words.{app_of, first_of, found_of, kind_of, one_of, rows_of, rule_of};
 ghost use Rattle.simulation.specs.Words.{texts_of, workers_rule};
-ghost use Rattle.claim_check.specs.Words.{AskedIn, AsksFor, AsksOptions, FaultOf, OptionsIn, at_most_rule, file_rule};
-ghost use Rattle.claim_check.specs.Words.{ReadsDelays, ReadsLate, late_rule, run_app};
-ghost use Rattle.claim_check.specs.Words.{fault_rule, faults_rule, flag_rule, line_of, motecheck_app, options_app, runs_rule};
+ghost use Rattle.claim_check.specs.Words.{AskedIn, AsksFor, AsksOptions, FaultOf, OptionsIn, ReadsFlag, ReadsList};
+ghost use Rattle.claim_check.specs.Words.{fault_rule, file_rule, flag_rule, kinds_app, line_of, motecheck_app};
+ghost use Rattle.claim_check.specs.Words.{number_rule, options_app, run_app, value_rule};
 
+use crate::numbers::list_of;
+use clap::builder::ValueParser;
 use clap::{Arg, ArgAction, ArgMatches, Command, Error};
 use std::alloc::{AllocError, Global};
 use window_workers::MOST_WORKERS;
@@ -26,8 +28,14 @@ pub struct Options {
     pub silent: bool,
     /// Whether a survey is asked for, with lost copies.
     pub lost: bool,
-    /// By how many moments copies are late in a survey; none if the list can't be read. Without a list, no copy is late.
+    /// By how many moments copies are late in a survey. This list and the others are empty if they can't be read.
     pub late: Option<Vec<u32>>,
+    /// From which moments on motes are off in a survey.
+    pub off: Option<Vec<u32>>,
+    /// At which moments motes restart in a survey.
+    pub restarts: Option<Vec<u32>>,
+    /// At which moments motes start late in a survey.
+    pub starts: Option<Vec<u32>>,
     /// The most faults in a set of a survey; without a number, 1.
     pub at_most: Option<u8>,
     /// The most runs of a survey; without a number, there is no limit.
@@ -70,38 +78,6 @@ fn lines_of_all(alloc: Global, values: Option<&[&str]>) -> Result<String, AllocE
     }
 }
 
-/// Returns the parts of a text, with commas between them.
-fn parts_of(alloc: Global, text: &str) -> Result<Vec<&str>, AllocError>
-    ensures parts { IfOk result (λ parts. texts_of parts.items ≡ slice_split (λ byte. byte == 44) text.now) }
-{
-    text.split(',').collect(alloc)
-}
-
-/// Returns the numbers in some texts; or none if one of the texts isn't a number.
-fn delays_in(alloc: Global, texts: &[&str]) -> Result<Vec<u32>, AllocError>
-    ensures delays { IfOk result (λ delays. ReadsDelays (texts_of texts.now) delays.items) }
-{
-    let mut delays = Vec::new(alloc);
-    for text in texts {
-        match text.parse::<u32>() {
-            Ok(delay) => delays.push(delay)?,
-            Err(_) => return Ok(Vec::new(alloc)),
-        }
-    }
-    Ok(delays)
-}
-
-/// Returns the numbers in the value of `--late`, if it has one.
-fn late_of(alloc: Global, value: Option<&str>) -> Result<Option<Vec<u32>>, AllocError>
-    ensures late { IfOk result (ReadsLate (option_map (λ text. text.now) value.entry)) }
-{
-    let Some(text) = value else {
-        return Ok(None);
-    };
-    let parts = parts_of(alloc, text)?;
-    Ok(Some(delays_in(alloc, parts.as_slice())?))
-}
-
 /// Returns the text of a value. `clap` has found one for each argument that is required.
 fn text_of<'a>(found: Option<&'a str>) -> &'a str
     ensures value { result.now ≡ unwrap_or (option_map (λ s. s.now) found.entry) [] }
@@ -112,6 +88,24 @@ fn text_of<'a>(found: Option<&'a str>) -> &'a str
     }
 }
 
+/// Returns `true` if a flag was given.
+fn flag_of(matches: &ArgMatches<'_>, name: &str) -> bool
+    ensures reads { ReadsFlag (one_of name.now (rows_of (found_of matches.now))) result }
+{
+    matches.get_flag(name)
+}
+
+/// Returns the numbers in the value of an option, if it has one.
+fn list_in(
+    alloc: Global,
+    matches: &ArgMatches<'_>,
+    name: &str,
+) -> Result<Option<Vec<u32>>, AllocError>
+    ensures reads { IfOk result (ReadsList (first_of name.now (rows_of (found_of matches.now)))) }
+{
+    list_of(alloc, matches.get_str(name))
+}
+
 /// Reads the options from the values of the arguments.
 ///
 /// # Errors
@@ -120,16 +114,22 @@ fn options_of(alloc: Global, matches: &ArgMatches<'_>) -> Result<Options, AllocE
     ensures options_in { IfOk result (OptionsIn (rows_of (found_of matches.now))) }
 {
     let faults = lines_of_all(alloc, matches.get_strs("fault"))?;
-    let late = late_of(alloc, matches.get_str("late"))?;
+    let late = list_in(alloc, matches, "late")?;
+    let off = list_in(alloc, matches, "off")?;
+    let restarts = list_in(alloc, matches, "restarts")?;
+    let starts = list_in(alloc, matches, "starts")?;
     let workers = matches.get_one::<u16>("workers");
     Ok(Options {
         faults,
-        report: matches.get_flag("report"),
+        report: flag_of(matches, "report"),
         workers,
-        links: matches.get_flag("links"),
-        silent: matches.get_flag("silent"),
-        lost: matches.get_flag("lost"),
+        links: flag_of(matches, "links"),
+        silent: flag_of(matches, "silent"),
+        lost: flag_of(matches, "lost"),
         late,
+        off,
+        restarts,
+        starts,
         at_most: matches.get_one::<u8>("at-most"),
         runs: matches.get_one::<u64>("runs"),
     })
@@ -151,128 +151,75 @@ fn asked_of<'a>(alloc: Global, matches: &ArgMatches<'a>) -> Result<Asked<'a>, Al
     })
 }
 
+/// Returns an option without a value.
+fn flag<'a>(alloc: Global, name: &'a str, help: &'a str) -> Arg<'a>
+    ensures rule { rule_of result ≡ flag_rule name.entry.now }
+    ensures not_global { result.global ≡ false }
+{
+    Arg::new(alloc, name)
+        .long(name)
+        .action(ArgAction::SetTrue)
+        .help(help)
+}
+
+/// Returns an option with a value, which help calls `value`.
+fn value<'a>(alloc: Global, name: &'a str, value: &'a str, help: &'a str) -> Arg<'a>
+    ensures rule { rule_of result ≡ value_rule name.entry.now }
+    ensures not_global { result.global ≡ false }
+{
+    Arg::new(alloc, name)
+        .long(name)
+        .value_name(value)
+        .help(help)
+}
+
+/// Returns an option with a number.
+fn number<'a>(
+    alloc: Global,
+    name: &'a str,
+    letter: &'a str,
+    parser: ValueParser<'a>,
+    help: &'a str,
+) -> Arg<'a>
+    ensures rule { rule_of result ≡ number_rule name.entry.now parser.entry }
+    ensures not_global { result.global ≡ false }
+{
+    value(alloc, name, letter, help).value_parser(parser)
+}
+
+/// Returns an argument that names a file.
+fn file<'a>(alloc: Global, name: &'a str, is_required: bool, help: &'a str) -> Arg<'a>
+    ensures rule { rule_of result ≡ file_rule name.entry.now is_required }
+    ensures not_global { result.global ≡ false }
+{
+    Arg::new(alloc, name).required(is_required).help(help)
+}
+
 fn fault_arg<'a>(alloc: Global) -> Arg<'a>
     ensures rule { rule_of result ≡ fault_rule }
     ensures not_global { result.global ≡ false }
 {
-    Arg::new(alloc, "fault")
-        .long("fault")
-        .value_name("TEXT")
-        .action(ArgAction::Append)
-        .help("A fault of the run, such as 'link 1 to 2 is broken'; may be given several times")
-}
-
-fn faults_arg<'a>(alloc: Global) -> Arg<'a>
-    ensures rule { rule_of result ≡ faults_rule }
-    ensures not_global { result.global ≡ false }
-{
-    Arg::new(alloc, "faults")
-        .long("faults")
-        .value_name("FILE")
-        .help("More faults of the run, one in each line of a file")
-}
-
-fn report_arg<'a>(alloc: Global) -> Arg<'a>
-    ensures rule { rule_of result ≡ flag_rule (codes "report") }
-    ensures not_global { result.global ≡ false }
-{
-    Arg::new(alloc, "report")
-        .long("report")
-        .action(ArgAction::SetTrue)
-        .help("Writes the report of the run, as motesim does; it takes no CLAIMS")
+    value(
+        alloc,
+        "fault",
+        "TEXT",
+        "A fault of the run, such as 'link 1 to 2 is broken'; may be given several times",
+    )
+    .action(ArgAction::Append)
 }
 
 fn workers_arg<'a>(alloc: Global) -> Arg<'a>
     ensures rule { rule_of result ≡ workers_rule }
     ensures not_global { result.global ≡ false }
 {
-    Arg::new(alloc, "workers")
-        .long("workers")
-        .value_name("N")
-        .value_parser(clap::value_parser!(u16).range(1..=i64::from(MOST_WORKERS)))
-        .help(
-            "Makes a run without faults, or the runs of a survey, on 1 to 16 workers, each with a thread of its own; \
-             without this option, one thread does it all",
-        )
-}
-
-fn links_arg<'a>(alloc: Global) -> Arg<'a>
-    ensures rule { rule_of result ≡ flag_rule (codes "links") }
-    ensures not_global { result.global ≡ false }
-{
-    Arg::new(alloc, "links")
-        .long("links")
-        .action(ArgAction::SetTrue)
-        .help(
-            "Surveys broken links: decides the claims for each set of faults, and lists the minimal sets that break one",
-        )
-}
-
-fn silent_arg<'a>(alloc: Global) -> Arg<'a>
-    ensures rule { rule_of result ≡ flag_rule (codes "silent") }
-    ensures not_global { result.global ≡ false }
-{
-    Arg::new(alloc, "silent")
-        .long("silent")
-        .action(ArgAction::SetTrue)
-        .help("Surveys silent motes, which hear others and are not heard")
-}
-
-fn lost_arg<'a>(alloc: Global) -> Arg<'a>
-    ensures rule { rule_of result ≡ flag_rule (codes "lost") }
-    ensures not_global { result.global ≡ false }
-{
-    Arg::new(alloc, "lost")
-        .long("lost")
-        .action(ArgAction::SetTrue)
-        .help("Surveys lost copies: of each packet, the copy on the way to each mote that hears it")
-}
-
-fn late_arg<'a>(alloc: Global) -> Arg<'a>
-    ensures rule { rule_of result ≡ late_rule }
-    ensures not_global { result.global ≡ false }
-{
-    Arg::new(alloc, "late").long("late").value_name("D,..").help(
-        "Surveys copies that are D moments late: 1 to 14 numbers, with commas between them",
+    number(
+        alloc,
+        "workers",
+        "N",
+        clap::value_parser!(u16).range(1..=i64::from(MOST_WORKERS)),
+        "Makes a run without faults, or the runs of a survey, on 1 to 16 workers, each with a thread of its own; \
+         without this option, one thread does it all",
     )
-}
-
-fn at_most_arg<'a>(alloc: Global) -> Arg<'a>
-    ensures rule { rule_of result ≡ at_most_rule }
-    ensures not_global { result.global ≡ false }
-{
-    Arg::new(alloc, "at-most")
-        .long("at-most")
-        .value_name("K")
-        .value_parser(clap::value_parser!(u8))
-        .help("The most faults in a set of a survey; without this option, 1")
-}
-
-fn runs_arg<'a>(alloc: Global) -> Arg<'a>
-    ensures rule { rule_of result ≡ runs_rule }
-    ensures not_global { result.global ≡ false }
-{
-    Arg::new(alloc, "runs")
-        .long("runs")
-        .value_name("N")
-        .value_parser(clap::value_parser!(u64))
-        .help("The most runs of a survey; without this option, there is no limit")
-}
-
-fn scenario_arg<'a>(alloc: Global) -> Arg<'a>
-    ensures rule { rule_of result ≡ file_rule (codes "SCENARIO") }
-    ensures not_global { result.global ≡ false }
-{
-    Arg::new(alloc, "SCENARIO")
-        .required(true)
-        .help("The scenario")
-}
-
-fn claims_arg<'a>(alloc: Global) -> Arg<'a>
-    ensures rule { rule_of result ≡ new_rule (codes "CLAIMS") }
-    ensures not_global { result.global ≡ false }
-{
-    Arg::new(alloc, "CLAIMS").help("The claims, one in each line")
 }
 
 /// Makes a command with the options of one run. It makes each argument after it has added the previous one, so no
@@ -285,26 +232,85 @@ fn run_options<'a>(alloc: Global) -> Result<Command<'a>, AllocError>
         .about(
             "Runs a scenario, and says for each claim about its report whether it holds: one line for each claim, \
              which begins with `holds` or `broken`, and one for each fault that names no copy of the run, which begins \
-             with `unused`. With --links, --silent, --lost or --late it surveys sets of faults, of one or several kinds, \
-             lists those that break a claim, and says which sets are covered. The status is 0 if all claims hold, with \
-             all of these sets, 1 if one is broken or sets were left out, and 2 if there is no result",
+             with `unused`. With --links, --silent, --lost, --late, --off, --restarts or --starts it surveys sets of \
+             faults, of one or several kinds, lists those that break a claim, and says which sets are covered. The \
+             status is 0 if all claims hold, with all of these sets, 1 if one is broken or sets were left out, and 2 if \
+             there is no result",
         )
         .arg(fault_arg(alloc))?
-        .arg(report_arg(alloc))?
+        .arg(flag(
+            alloc,
+            "report",
+            "Writes the report of the run, as motesim does; it takes no CLAIMS",
+        ))?
         .arg(workers_arg(alloc))
+}
+
+/// Adds the kinds of faults that a survey may try.
+fn kinds_options<'a>(alloc: Global) -> Result<Command<'a>, AllocError>
+    ensures has_options { IfOk result (λ c. app_of c ≡ kinds_app) }
+{
+    run_options(alloc)?
+        .arg(flag(
+            alloc,
+            "links",
+            "Surveys broken links: decides the claims for each set of faults, and lists the minimal sets that break one",
+        ))?
+        .arg(flag(
+            alloc,
+            "silent",
+            "Surveys silent motes, which hear others and are not heard",
+        ))?
+        .arg(flag(
+            alloc,
+            "lost",
+            "Surveys lost copies: of each packet, the copy on the way to each mote that hears it",
+        ))?
+        .arg(value(
+            alloc,
+            "late",
+            "N,..",
+            "Surveys copies that are N moments late. The numbers of a list rise, and have commas between them",
+        ))?
+        .arg(value(
+            alloc,
+            "off",
+            "N,..",
+            "Surveys motes that are off from moment N on",
+        ))?
+        .arg(value(
+            alloc,
+            "restarts",
+            "N,..",
+            "Surveys motes that boot again at moment N",
+        ))?
+        .arg(value(
+            alloc,
+            "starts",
+            "N,..",
+            "Surveys motes that are off until moment N",
+        ))
 }
 
 /// Makes a command with all options, but the files.
 fn options_command<'a>(alloc: Global) -> Result<Command<'a>, AllocError>
     ensures has_options { IfOk result (λ c. app_of c ≡ options_app) }
 {
-    run_options(alloc)?
-        .arg(links_arg(alloc))?
-        .arg(silent_arg(alloc))?
-        .arg(lost_arg(alloc))?
-        .arg(late_arg(alloc))?
-        .arg(at_most_arg(alloc))?
-        .arg(runs_arg(alloc))
+    kinds_options(alloc)?
+        .arg(number(
+            alloc,
+            "at-most",
+            "K",
+            clap::value_parser!(u8),
+            "The most faults in a set of a survey; without this option, 1",
+        ))?
+        .arg(number(
+            alloc,
+            "runs",
+            "N",
+            clap::value_parser!(u64),
+            "The most runs of a survey; without this option, there is no limit",
+        ))
 }
 
 /// Makes the program's only command.
@@ -312,9 +318,14 @@ fn command<'a>(alloc: Global) -> Result<Command<'a>, AllocError>
     ensures is_motecheck { IfOk result (λ c. app_of c ≡ motecheck_app) }
 {
     options_command(alloc)?
-        .arg(faults_arg(alloc))?
-        .arg(scenario_arg(alloc))?
-        .arg(claims_arg(alloc))
+        .arg(value(
+            alloc,
+            "faults",
+            "FILE",
+            "More faults of the run, one in each line of a file",
+        ))?
+        .arg(file(alloc, "SCENARIO", true, "The scenario"))?
+        .arg(file(alloc, "CLAIMS", false, "The claims, one in each line"))
 }
 
 /// Reads the arguments of a command line; the first is the program's name.

@@ -11,12 +11,13 @@ ghost use Rattle.claim_check.specs.Survey.{RefusesWorkers, Surveys, TellsSurvey,
 use crate::answers::Answers;
 use crate::error::CheckError;
 use crate::names::names_of;
+use crate::plan::Faults;
 use claim_text::read_claims;
 use claims::Claim;
 use mote_net::Net;
 use net_scenario::read_scenario;
 use net_survey::{
-    Candidates, CopyFault, Kinds, Limits, Progress, Survey, candidates_of, is_complete, survey_net,
+    Candidates, Limits, Progress, Survey, candidates_of, is_complete, survey_net,
     survey_net_serial, write_survey,
 };
 use program_tree::Names;
@@ -30,33 +31,6 @@ pub const MOST: usize = 65535;
 
 /// The most faults that a single copy may have in a survey.
 const MOST_OF_A_COPY: usize = 15;
-
-/// The runs that a survey makes at a time, before the next message of its progress.
-const RUNS_AT_A_TIME: u16 = 2048;
-
-/// The sets of faults that a survey tries.
-#[derive(Clone, Copy)]
-pub struct Faults<'a> {
-    pub kinds: Kinds,
-    /// What may happen to each copy.
-    pub copies: &'a [CopyFault],
-    /// The most faults in a set.
-    pub at_most: u8,
-    /// The most runs.
-    pub runs: u64,
-}
-
-impl<'a> Faults<'a> {
-    fn limits(self) -> Limits
-        ensures value { result ≡ limits_of (plan_of self.entry) }
-    {
-        Limits {
-            faults: self.at_most,
-            trials: self.runs,
-            at_a_time: RUNS_AT_A_TIME,
-        }
-    }
-}
 
 /// Returns `true` if a survey reached its end, and no set breaks a claim.
 fn is_settled(limits: Limits, survey: &Survey) -> bool
@@ -73,14 +47,14 @@ fn faults_to_try(
     alloc: Global,
     net: &Net,
     claims: &[Claim],
-    faults: Faults<'_>,
+    faults: &Faults,
 ) -> Result<Candidates, CheckError>
     ensures few_claims { IfOk result (λ _. length claims.now < 2 ^ 16) }
     ensures few_faults { IfOk result (λ all. length all.fixed.items < 2 ^ 16) }
     ensures few_copies { IfOk result (λ all. length all.copies.items < 16) }
-    ensures fixed { IfOk result (λ all. all.fixed.items ≡ faults_in (plan_of faults.entry) (net_of net.now)) }
-    ensures copies { IfOk result (λ all. all.copies.items ≡ (plan_of faults.entry).copies) }
-    ensures refuses { IfErr result (RefusesFaults (plan_of faults.entry) (net_of net.now) claims.now) }
+    ensures fixed { IfOk result (λ all. all.fixed.items ≡ faults_in (plan_of faults.now) (net_of net.now)) }
+    ensures copies { IfOk result (λ all. all.copies.items ≡ (plan_of faults.now).copies) }
+    ensures refuses { IfErr result (RefusesFaults (plan_of faults.now) (net_of net.now) claims.now) }
 {
     if claims.len() > MOST {
         return Err(CheckError::TooManyClaims);
@@ -88,7 +62,7 @@ fn faults_to_try(
     if faults.copies.len() > MOST_OF_A_COPY {
         return Err(CheckError::TooManyFaults);
     }
-    let all = candidates_of(alloc, net, faults.kinds, faults.copies)?;
+    let all = candidates_of(alloc, net, faults.links, &faults.motes, &faults.copies)?;
     if all.fixed.len() > MOST {
         return Err(CheckError::TooManyFaults);
     }
@@ -120,9 +94,9 @@ fn survey_claims_serial(
     net: &Net,
     names: &Names,
     claims: &[Claim],
-    faults: Faults<'_>,
+    faults: &Faults,
 ) -> Result<Answers, CheckError>
-    ensures surveys { SurveysNet None (plan_of faults.entry) names.now (net_of net.now) claims.now result }
+    ensures surveys { SurveysNet None (plan_of faults.now) names.now (net_of net.now) claims.now result }
 {
     let candidates = faults_to_try(alloc, net, claims, faults)?;
     let limits = faults.limits();
@@ -157,11 +131,11 @@ fn survey_claims<T: Threads + Sync, P: Progress + Sync>(
     net: &Net,
     names: &Names,
     claims: &[Claim],
-    faults: Faults<'_>,
+    faults: &Faults,
     workers: Option<u16>,
     progress: &P,
 ) -> Result<Answers, CheckError>
-    ensures surveys { SurveysNet (way_by workers sync.Joins) (plan_of faults.entry) names.now (net_of net.now) claims.now result }
+    ensures surveys { SurveysNet (way_by workers sync.Joins) (plan_of faults.now) names.now (net_of net.now) claims.now result }
 {
     let candidates = faults_to_try(alloc, net, claims, faults)?;
     let workers = workers_of(workers)?;
@@ -189,10 +163,10 @@ pub fn check_serial_with_faults(
     alloc: Global,
     scenario: &str,
     claims: &str,
-    faults: Faults<'_>,
+    faults: &Faults,
 ) -> Result<Answers, CheckError>
     requires is_text { IsText scenario.now }
-    ensures surveys { Surveys None (plan_of faults.entry) scenario.now claims.now result }
+    ensures surveys { Surveys None (plan_of faults.now) scenario.now claims.now result }
 {
     let net = read_scenario(alloc, scenario)?;
     let none = Names::new(alloc);
@@ -214,12 +188,12 @@ pub fn check_with_faults<T: Threads + Sync, P: Progress + Sync>(
     alloc: Global,
     scenario: &str,
     claims: &str,
-    faults: Faults<'_>,
+    faults: &Faults,
     workers: Option<u16>,
     progress: &P,
 ) -> Result<Answers, CheckError>
     requires is_text { IsText scenario.now }
-    ensures surveys { Surveys (way_by workers sync.Joins) (plan_of faults.entry) scenario.now claims.now result }
+    ensures surveys { Surveys (way_by workers sync.Joins) (plan_of faults.now) scenario.now claims.now result }
 {
     let net = read_scenario(alloc, scenario)?;
     let none = Names::new(alloc);

@@ -1,37 +1,27 @@
 -- The faults that a net may have.
-use Rattle.std.specs.Prelude.{ℕ, Some, None, if◌then◌else◌, List, [], ◌++◌, map}
+use Rattle.std.specs.Prelude.{ℕ, Bool, if◌then◌else◌, List, [], ◌++◌, map}
 use Rattle.std.specs.List.{filter, flat_map}
 use Rattle.radio_medium.specs.Medium.{Radio, hears, motes}
 use Rattle.radio_faults.specs.declared.fault.Fault.{Fault}
 use Rattle.radio_faults.specs.declared.fault.Fault.TheVariants as fault
-use Rattle.radio_faults.specs.declared.fault.Fault.TheVariants.{Link, Silent}
-use Rattle.net_survey.specs.declared.candidates.Kinds.{Kinds}
-use Rattle.net_survey.specs.declared.candidates.Off.{Off}
-use Rattle.net_survey.specs.declared.candidates.Off.TheVariants.{From, Until}
+use Rattle.net_survey.specs.declared.candidates.MoteFault.{MoteFault}
+use Rattle.net_survey.specs.declared.candidates.MoteFault.TheVariants.{Silent, Off}
 
 -- the broken links from mote s to each mote that hears it
 abbrev pub links_from : Radio → (s : ℕ) → List Fault
-links_from radio s = map (Link s) (filter (λ r. hears radio r s) (motes radio))
+links_from radio s = map (fault.Link s) (filter (λ r. hears radio r s) (motes radio))
 
 abbrev pub link_faults : Radio → List Fault
 link_faults radio = flat_map (links_from radio) (motes radio)
 
-abbrev pub silent_motes : Radio → List Fault
-silent_motes radio = map Silent (motes radio)
+-- what happens to this mote
+abbrev pub fault_of_mote : MoteFault → (mote : ℕ) → Fault
+fault_of_mote Silent mote = fault.Silent mote
+fault_of_mote (Off from until) mote = fault.Off mote from until
 
--- the broken links and silent motes, if they are chosen
-abbrev pub fixed_faults : Kinds → Radio → List Fault
-fixed_faults kinds radio =
-    (if kinds.links then link_faults radio else []) ++ (if kinds.silent then silent_motes radio else [])
+abbrev pub of_each_mote : Radio → MoteFault → List Fault
+of_each_mote radio it = map (fault_of_mote it) (motes radio)
 
--- the fault of a mote that is off then
-abbrev pub off_at : Off → (mote : ℕ) → Fault
-off_at (From from) mote = fault.Off mote from None
-off_at (Until until) mote = fault.Off mote 0 (Some until)
-
-abbrev pub off_motes : Radio → Off → List Fault
-off_motes radio time = map (off_at time) (motes radio)
-
--- each mote is off at each of these times
-abbrev pub off_faults : List Off → Radio → List Fault
-off_faults times radio = flat_map (off_motes radio) times
+-- the broken links, if they are chosen, and each of these faults of each mote
+abbrev pub fixed_faults : (links : Bool) → List MoteFault → Radio → List Fault
+fixed_faults links its radio = (if links then link_faults radio else []) ++ flat_map (of_each_mote radio) its

@@ -1,9 +1,9 @@
 //! The faults that a net may have.
 
 ghost use Rattle.std.specs.Prelude.{◌≡◌, ◌<◌, ◌++◌, ◌∷◌, [], if◌then◌else◌, length, IfOk, OnOk};
+ghost use Rattle.std.specs.List.{flat_map};
 ghost use Rattle.mote_net.specs.Meaning.{net_of};
-ghost use Rattle.net_survey.specs.Candidates.{fixed_faults, link_faults, links_from, off_at, off_faults, silent_motes};
-ghost use Rattle.net_survey.specs.Candidates.{off_motes};
+ghost use Rattle.net_survey.specs.Candidates.{fault_of_mote, fixed_faults, link_faults, links_from, of_each_mote};
 
 use fault_keys::{Candidates, CopyFault};
 use mote_net::Net;
@@ -11,74 +11,60 @@ use radio_faults::Fault;
 use radio_medium::Medium;
 use std::alloc::{AllocError, Global};
 
-/// Kinds of faults.
+/// What happens to a single mote.
 #[derive(Clone, Copy, Debug, PartialEq, Eq)]
-pub struct Kinds {
-    /// Broken links, each in one direction.
-    pub links: bool,
-    /// Silent motes.
-    pub silent: bool,
+pub enum MoteFault {
+    /// The mote is silent.
+    Silent,
+    /// The mote is off from a moment up to another one, or from then on.
+    Off { from: u64, until: Option<u64> },
 }
 
-/// When a mote may be off.
-#[derive(Clone, Copy, Debug, PartialEq, Eq)]
-pub enum Off {
-    /// From a moment on.
-    From(u64),
-    /// Until a moment.
-    Until(u64),
-}
-
-impl Off {
-    /// The fault of a mote that is off then.
+impl MoteFault {
     fn of(self, mote: u16) -> Fault
-        ensures value { result ≡ off_at self mote }
+        ensures value { result ≡ fault_of_mote self mote }
     {
         match self {
-            Off::From(from) => Fault::Off {
-                mote,
-                from,
-                until: None,
-            },
-            Off::Until(until) => Fault::Off {
-                mote,
-                from: 0,
-                until: Some(until),
-            },
+            MoteFault::Silent => Fault::Silent(mote),
+            MoteFault::Off { from, until } => Fault::Off { mote, from, until },
         }
     }
 }
 
-/// The faults of these kinds in a net: first the links, by sender, then receiver; then the motes; and these faults of
-/// each copy that a run sends.
+/// The faults that come into question in a net: its broken links, if they are chosen, by sender, then receiver; what may
+/// happen to each mote, first to all motes the first of these faults; and these faults of each copy that a run sends.
 ///
 /// # Errors
 /// `AllocError` if an allocation fails.
 pub fn candidates_of(
     alloc: Global,
     net: &Net,
-    kinds: Kinds,
+    links: bool,
+    motes: &[MoteFault],
     copies: &[CopyFault],
 ) -> Result<Candidates, AllocError>
-    ensures fixed { IfOk result (λ all. all.fixed.items ≡ fixed_faults kinds (net_of net.now).radio) }
+    ensures fixed { IfOk result (λ all. all.fixed.items ≡ fixed_faults links motes.now (net_of net.now).radio) }
     ensures copies { IfOk result (λ all. all.copies.items ≡ copies.now) }
 {
-    let fixed = fixed_of(alloc, net, kinds)?;
+    let fixed = fixed_of(alloc, net, links, motes)?;
     let copies = copies.to_vec(alloc)?;
     Ok(Candidates { fixed, copies })
 }
 
-/// The broken links and silent motes.
-fn fixed_of(alloc: Global, net: &Net, kinds: Kinds) -> Result<Vec<Fault>, AllocError>
-    ensures value { IfOk result (λ all. all.items ≡ fixed_faults kinds (net_of net.now).radio) }
+/// The faults of a net that don't depend on its run.
+fn fixed_of(
+    alloc: Global,
+    net: &Net,
+    links: bool,
+    faults: &[MoteFault],
+) -> Result<Vec<Fault>, AllocError>
+    ensures value { IfOk result (λ all. all.items ≡ fixed_faults links faults.now (net_of net.now).radio) }
 {
     let mut all = Vec::new(alloc);
-    if kinds.links {
+    if links {
         add_links(net.medium(), net.motes(), &mut all)?;
     }
-    if kinds.silent {
-        add_silent(net.medium(), net.motes(), &mut all)?;
-    }
+    add_mote_faults(net.medium(), net.motes(), faults, &mut all)?;
     Ok(all)
 }
 
@@ -121,42 +107,34 @@ fn add_links(medium: &Medium, motes: u16, all: &mut Vec<Fault>) -> Result<(), Al
     Ok(())
 }
 
-/// Appends each mote as a silent one.
-fn add_silent(medium: &Medium, motes: u16, all: &mut Vec<Fault>) -> Result<(), AllocError>
-    requires motes { motes ≡ length medium.now.places }
-    ensures appended { OnOk result (all.new.items ≡ all.old.items ++ silent_motes medium.now) }
-{
-    for mote in 0..motes {
-        all.push(Fault::Silent(mote))?;
-    }
-    Ok(())
-}
-
-/// Appends each mote as one that is off at this time.
-fn add_off_at(
+/// Appends this fault of each mote.
+fn add_each(
     medium: &Medium,
     motes: u16,
-    time: Off,
+    fault: MoteFault,
     all: &mut Vec<Fault>,
 ) -> Result<(), AllocError>
     requires motes { motes ≡ length medium.now.places }
-    ensures appended { OnOk result (all.new.items ≡ all.old.items ++ off_motes medium.now time) }
+    ensures appended { OnOk result (all.new.items ≡ all.old.items ++ of_each_mote medium.now fault) }
 {
     for mote in 0..motes {
-        all.push(time.of(mote))?;
+        all.push(fault.of(mote))?;
     }
     Ok(())
 }
 
-/// Appends each mote as one that is off at each of these times: first all motes at the first time.
-///
-/// # Errors
-/// `AllocError` if an allocation fails.
-pub fn add_off(net: &Net, times: &[Off], all: &mut Vec<Fault>) -> Result<(), AllocError>
-    ensures appended { OnOk result (all.new.items ≡ all.old.items ++ off_faults times.now (net_of net.now).radio) }
+/// Appends each of these faults of each mote.
+fn add_mote_faults(
+    medium: &Medium,
+    motes: u16,
+    faults: &[MoteFault],
+    all: &mut Vec<Fault>,
+) -> Result<(), AllocError>
+    requires motes { motes ≡ length medium.now.places }
+    ensures appended { OnOk result (all.new.items ≡ all.old.items ++ flat_map (of_each_mote medium.now) faults.now) }
 {
-    for time in times {
-        add_off_at(net.medium(), net.motes(), *time, all)?;
+    for fault in faults {
+        add_each(medium, motes, *fault, all)?;
     }
     Ok(())
 }

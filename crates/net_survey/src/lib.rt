@@ -9,7 +9,7 @@ mod net_trial;
 mod report;
 mod search;
 
-pub use candidates::{Kinds, Off, add_off, candidates_of};
+pub use candidates::{MoteFault, candidates_of};
 pub use claim::put_claim;
 pub use fault::put_set;
 pub use fault_keys::{Candidates, CopyFault};

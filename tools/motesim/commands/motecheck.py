@@ -3,7 +3,7 @@
   tools/expect examples/news.toml --claims >news.claims
   tools/motecheck --links --at-most 2 examples/news.toml news.claims
 
-This runs motecheck with the same arguments. With --links, --silent, --lost or --late it surveys sets of faults.
+This runs motecheck with the same arguments. With an option that tries faults it surveys sets of them.
 docs/use/EXPECTATIONS.md describes claims, and what an answer says.
 
 The status is 0 if all claims hold, with all sets of a survey, 1 if not, and 2 if there is no result.
@@ -14,6 +14,7 @@ import sys
 from pathlib import Path
 
 from motesim.command import become, command
+from motesim.surveys.kinds import add_kinds
 from motesim.words import Words, add_faults, words_of
 
 
@@ -23,10 +24,7 @@ def parser() -> Words:
     words.add_argument('claims', metavar='CLAIMS', nargs='?', help='a file of claims, one in each line')
     add_faults(words)
     words.add_argument('--report', action='store_true', help='write the report of the run, without claims')
-    words.add_argument('--links', action='store_true', help='survey broken links')
-    words.add_argument('--silent', action='store_true', help='survey silent motes, which no mote hears')
-    words.add_argument('--lost', action='store_true', help='survey lost packets, each on its way to one mote')
-    words.add_argument('--late', metavar='MOMENTS', help='survey packets that reach one mote so much later: 1,4')
+    add_kinds(words)
     words.add_argument('--at-most', metavar='K', help='the greatest number of faults in a set of a survey (1)')
     words.add_argument('--runs', metavar='N', help='the greatest number of runs of a survey')
     words.add_argument('--workers', metavar='N',

@@ -23,7 +23,7 @@ from motesim.faults import Fault
 from motesim.judge.expectations import changed, text_of
 from motesim.scenario import Scenario
 from motesim.scenario.refused import check
-from motesim.surveys.kinds import KINDS, USUAL, Kinds
+from motesim.surveys.kinds import KINDS, Kinds, kinds_given
 from motesim.surveys.searching import Asked, search_of
 from motesim.surveys.survey import Bounds
 from motesim.text import known
@@ -85,8 +85,7 @@ def _has_form(key: str, value: object) -> bool:
 
 def kinds_of(study: dict[str, Any]) -> Kinds:
     """The kinds of faults of a study."""
-    with_values = {kind: ','.join(map(str, study[kind])) for kind in VALUES if kind in study}
-    return dict.fromkeys(study.get('kinds', []), '') | with_values or USUAL
+    return kinds_given(dict.fromkeys(study.get('kinds', []), True) | {it: study[it] for it in VALUES if it in study})
 
 
 def asked_in(study: dict[str, Any], path: Path) -> Asked:

@@ -1,4 +1,4 @@
-use Rattle.claim_check.specs.Command.{way_for}
+use Rattle.claim_check.specs.Asked.{way_for}
 use Rattle.claim_check.proofs.AskedAnswers.{by_report, by_writing}
 use Rattle.claim_check.proofs.command.answer.Goals as goal
 

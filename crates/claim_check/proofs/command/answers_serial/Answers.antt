@@ -1,15 +1,15 @@
 use Rattle.std.proofs.Common.{Err, refl}
 use Rattle.std.proofs.lemmas.Result.{err_from_is_err_and}
 use Rattle.simulation.specs.declared.error.SimError.TheVariants as fault
-use Rattle.claim_check.specs.Command.{plan_for}
+use Rattle.claim_check.specs.Asked.{plan_for}
 use Rattle.claim_check.specs.Survey.{plan_of}
 use Rattle.claim_check.specs.declared.error.CheckError.TheVariants as check
 use Rattle.std.proofs.Common.{None}
 use Rattle.claim_check.proofs.AskedAnswers.{by_check, by_survey}
 use Rattle.claim_check.proofs.command.answers_serial.Goals as goal
 
-pub returns-in_err-copies : goal.returns-in_err-copies
-returns-in_err-copies c =
+pub returns-in_err-faults : goal.returns-in_err-faults
+returns-in_err-faults c =
     let p = err_from_is_err_and c.from_residual.result c.from_residual.ensures.1 in
     let a = c.args in
     record {
@@ -19,11 +19,11 @@ returns-in_err-copies c =
           );
     }
 
-pub returns-in_ok-copies : goal.returns-in_ok-copies
-returns-in_ok-copies c =
+pub returns-in_ok-faults : goal.returns-in_ok-faults
+returns-in_ok-faults c =
     let a = c.args in
     record {
-      answers = by_survey None a.options.now a.scenario.now a.claims.now a.faults.now c.check_serial_with_faults.result c.is_survey.result (plan_of c.faults_of-faults.result) c.is_survey.ensures.value c.if-is_survey.true c.faults_of-faults.ensures.value
+      answers = by_survey None a.options.now a.scenario.now a.claims.now a.faults.now c.check_serial_with_faults.result c.is_survey.result (plan_of c.in_ok-faults.faults) c.is_survey.ensures.value c.if-is_survey.true c.in_ok-faults.ensures.value
           c.check_serial_with_faults.ensures.surveys;
     }
 

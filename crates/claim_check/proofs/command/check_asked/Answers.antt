@@ -1,5 +1,6 @@
-use Rattle.std.proofs.Common.{◌∙◌, inl, inr, rules, refl}
+use Rattle.std.proofs.Common.{inl, inr, rules, refl, subst, sym}
 use Rattle.std.proofs.lemmas.Result.{err_from_is_err_and}
+use Rattle.claim_check.specs.Command.{AreAllFaults}
 use Rattle.claim_check.proofs.command.check_asked.Goals as goal
 
 pub returns-in_err-scenario : goal.returns-in_err-scenario
@@ -23,7 +24,7 @@ returns g c = record {
     scenario = c.as_str.result.now;
     claims = c.as_str-2.result.now;
     faults = c.as_str-3.result.now;
-    only_options = λ none. c.as_str-3.ensures.value ∙ c.in_ok-faults.ensures.only_options none;
+    all_faults = subst (AreAllFaults c.args.asked.now) (sym c.as_str-3.ensures.value) c.in_ok-faults.ensures.all_faults;
     responds = c.answer.ensures.responds;
   };
 }

@@ -1,5 +1,6 @@
 use Rattle.std.proofs.Common.{rules}
-use Rattle.claim_check.specs.Command.{ChecksSome, are_in_conflict, ends}
+use Rattle.claim_check.specs.Asked.{are_in_conflict}
+use Rattle.claim_check.specs.Command.{ChecksSome, ends}
 use Rattle.claim_check.proofs.AskedAnswers.{by_refusal, by_result}
 use Rattle.claim_check.proofs.command.run_asked.Goals as goal
 

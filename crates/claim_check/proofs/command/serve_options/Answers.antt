@@ -1,5 +1,6 @@
 use Rattle.std.proofs.Common.{None, rules, string_bytes, subst}
-use Rattle.claim_check.specs.Command.{Responds, ends, is_in_conflict}
+use Rattle.claim_check.specs.Asked.{is_in_conflict}
+use Rattle.claim_check.specs.Command.{Responds, ends}
 use Rattle.claim_check.proofs.AskedAnswers.{by_refusal, by_result}
 use Rattle.claim_check.proofs.command.serve_options.Goals as goal
 

@@ -2,7 +2,7 @@ use Rattle.std.proofs.Common.{◌≡◌, rules, string_bytes}
 use Rattle.std.proofs.lemmas.Result.{err_from_is_err_and}
 use Rattle.std.specs.Io.KnownBytes.{Appends}
 use Rattle.trace_printer.specs.Output.{AppendsFront}
-use Rattle.claim_check.specs.Command.{way_for}
+use Rattle.claim_check.specs.Asked.{way_for}
 use Rattle.claim_check.proofs.AskedAnswers.{answered, failed}
 use Rattle.claim_check.proofs.command.write_answers.Goals as goal
 

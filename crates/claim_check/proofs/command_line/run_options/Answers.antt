@@ -9,7 +9,7 @@ returns c = record {
   has_options =
       let start : app_of c.about.result ≡ on_top (λ s. record s { has_version = true }) (new_app (codes "motecheck")) = search rules in
       let one = c.in_ok-arg.ensures.shape c.fault_arg.ensures.not_global ∙ ap₂ with_rule start c.fault_arg.ensures.rule in
-      let two = c.in_ok-arg-2.ensures.shape c.report_arg.ensures.not_global ∙ ap₂ with_rule one c.report_arg.ensures.rule in
+      let two = c.in_ok-arg-2.ensures.shape c.flag.ensures.not_global ∙ ap₂ with_rule one c.flag.ensures.rule in
       IfOk-weaker c.arg-3.result _ _ (λ made h. h.shape c.workers_arg.ensures.not_global ∙ ap₂ with_rule two c.workers_arg.ensures.rule)
       c.arg-3.ensures;
 }

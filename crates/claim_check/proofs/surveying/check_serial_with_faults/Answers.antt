@@ -30,7 +30,7 @@ returns c = record {
   surveys =
       let same : c.as_bytes.result.now ≡ c.args.claims.now = search rules in
       let sliced : c.as_slice.result.now ≡ c.in_ok-claims.claims.items = search rules in
-      let by_net = subst (λ cs. SurveysNet None (plan_of c.args.faults) c.names_of-names.result.now (net_of c.in_ok-net.net) cs c.survey_claims_serial.result) sliced c.survey_claims_serial.ensures.surveys in
-      surveys None (plan_of c.args.faults) c.args.scenario.now c.args.claims.now c.names_of-names.result.now (net_of c.in_ok-net.net) c.in_ok-claims.claims.items c.requires.is_text
+      let by_net = subst (λ cs. SurveysNet None (plan_of c.args.faults.now) c.names_of-names.result.now (net_of c.in_ok-net.net) cs c.survey_claims_serial.result) sliced c.survey_claims_serial.ensures.surveys in
+      surveys None (plan_of c.args.faults.now) c.args.scenario.now c.args.claims.now c.names_of-names.result.now (net_of c.in_ok-net.net) c.in_ok-claims.claims.items c.requires.is_text
       c.in_ok-net.ensures.answers c.names_of-names.ensures.named (c.in_ok-claims.ensures.texts ∙ ap claim_lines same) c.survey_claims_serial.result by_net;
 }

@@ -12,7 +12,7 @@ pub returns-in_err-candidates : goal.returns-in_err-candidates
 returns-in_err-candidates g c =
     let p = err_from_is_err_and c.from_residual.result c.from_residual.ensures.1 in
     let a = c.args in
-    record { surveys = rw (p.1, p.2) (not_tried (way_by c.args.workers sync.Joins) (plan_of a.faults) a.names.now (net_of a.net.now) a.claims.now c.in_err-candidates.field-0.0 c.in_err-candidates.ensures.refuses) }
+    record { surveys = rw (p.1, p.2) (not_tried (way_by c.args.workers sync.Joins) (plan_of a.faults.now) a.names.now (net_of a.net.now) a.claims.now c.in_err-candidates.field-0.0 c.in_err-candidates.ensures.refuses) }
 
 pub returns-in_err-workers : goal.returns-in_err-workers
 returns-in_err-workers g c =
@@ -26,7 +26,7 @@ returns g c = record {
       let net = net_of a.net.now in
       let answers = c.in_ok-answers_of.field-0 in
       let e = c.in_ok-candidates.ensures in
-      let plan = plan_of a.faults in
+      let plan = plan_of a.faults.now in
       let within = c.limits-limits.ensures.value in
       let found = c.in_ok-found.found in
       let candidates = c.in_ok-candidates.candidates in

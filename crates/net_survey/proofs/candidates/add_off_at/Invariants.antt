@@ -1,7 +1,0 @@
-use Rattle.std.proofs.Common.{◌≡◌, ◌++◌, map}
-use Rattle.std.specs.List.{range_with_len}
-use Rattle.net_survey.specs.Candidates.{off_at}
-use Rattle.net_survey.proofs.candidates.add_off_at.Given as goal
-
-abbrev pub invariant-loop-mote : goal.invariant-loop-mote
-invariant-loop-mote l = l.all.items ≡ l.fn.all.items ++ map (off_at l.time) (range_with_len 0 l.mote)
