@@ -9,9 +9,15 @@ import {change} from './web.js';
 /** A fault, as motecheck has it: `mote` is the one that sends, is silent or off.
  * @typedef {{kind: string, mote: number, to?: number, packet?: number, text: string}} Fault */
 
-/** The kinds of faults that can be tried: the kind, the name, and the option of motecheck. */
-export const KINDS = [['link', 'links', '--links'], ['silent', 'silent motes', '--silent'],
-  ['lost', 'lost copies', '--lost'], ['late', 'late copies', '--late=1,4']];
+/** The moments after each quarter of a run, which rise. */
+const quarters = ({end}) => [1, 2, 3].map(i => Math.max(i, Math.round(end * i / 4))).join();
+
+/** The kinds of faults that can be tried: the kind, the name, and the option of motecheck for a run.
+ * @type {[string, string, (run: any) => string][]} */
+export const KINDS = [['link', 'links', () => '--links'], ['silent', 'silent motes', () => '--silent'],
+  ['lost', 'lost copies', () => '--lost'], ['late', 'late copies', () => '--late=1,4'],
+  ['restarts', 'restarts', run => `--restarts=${quarters(run)}`],
+  ['off', 'motes that fail', run => `--off=${quarters(run)}`]];
 const FORMS = [/^(?<kind>link) (?<mote>\d+) to (?<to>\d+) is broken$/,
   /^mote (?<mote>\d+) (?:is )?(?<kind>silent|off|restarts)\b/,
   /^packet (?<packet>\d+) of mote (?<mote>\d+) is (?:\d+ )?(?<kind>lost|late)(?: on the way to mote (?<to>\d+))?$/];
@@ -90,7 +96,7 @@ function drawOnMap(map) {
   }
   for (const {kind, mote, to} of here(checks.weak)) {
     if (kind === 'link') drawPath(c, map.way(mote, to, radius), 'trouble', 4, 0.8);
-    if (kind !== 'silent') continue;
+    if (!['silent', 'restarts', 'off'].includes(kind)) continue;
     ring(c, map.x(mote), map.y(mote), radius + 4);
     stroke(c, 'trouble', 2.5);
   }

@@ -31,7 +31,8 @@ const bare = text => withComments(text, FAULT, () => []);
 /** How many sets of at most so many faults of the kinds that are tried there may be. */
 function setsOf(most) {
   const {run} = page.panes[0], sizes = {links: run.hearers.reduce((sum, it) => sum + it.length, 0),
-    'silent motes': run.begins.length, 'lost copies': run.copies, 'late copies': 2 * run.copies};
+    'silent motes': run.begins.length, 'lost copies': run.copies, 'late copies': 2 * run.copies,
+    restarts: 3 * run.begins.length, 'motes that fail': 3 * run.begins.length};
   const faults = kindsNow().reduce((sum, name) => sum + sizes[name], 0);
   return most === 1 ? faults : faults * (faults + 1) / 2;
 }
@@ -75,7 +76,7 @@ async function survey(most) {
   byId('try-single').hidden = byId('try-pairs').hidden = true;
   const seconds = count(Math.ceil(estimate(most) / 1000), 'second');
   byId('tried').textContent = `Up to ${digits(setsOf(most) + 1)} runs, about ${seconds} …`;
-  const options = KINDS.filter(([, name]) => kinds.includes(name)).map(([,, option]) => option);
+  const [{run}] = page.panes, options = KINDS.filter(([, name]) => kinds.includes(name)).map(([,, its]) => its(run));
   const got = await page.backend.check(bare(web.history.text), checks.items.flatMap(it => it.claims),
     [...options, `--at-most=${most}`, `--runs=${2 ** 32}`]);
   if (number !== web.number || got.superseded) return;
