@@ -41,7 +41,9 @@ function drawLabels({pane, labels, marks}) {
   for (const {text, x, y, colour, behind} of labels) {
     const end = x + text.length * 6.4, isName = colour === 'run-ink';
     let isFree = x <= pane.width && x >= last;
-    for (let i = behind; isFree && marks[i] < end; i += 2) isFree = Math.abs(marks[i + 1] - y) >= 9;
+    for (let i = behind; isFree && i < marks.length && marks[i] < end; i += 2) {
+      isFree = Math.abs(marks[i + 1] - y) >= 9;
+    }
     if (!isFree) {
       if (colour === 'print') drawn.unlabelled++;
       continue;
