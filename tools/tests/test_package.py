@@ -87,7 +87,7 @@ class OneCommand(Room):
 
     def test_bash_completes_verbs_options_and_values(self) -> None:
         script = self.put('completion', self.run_it('completion')[1])
-        for typed, found in ((['se'], 'search'), (['export', '--to', 'co'], 'contiki'),
+        for typed, found in ((['se'], 'search'), (['export', '--to', 'con'], 'contiki'),
                              (['sweep', '--rene'], '--renew'), (['why', 'compl'], 'completion')):
             shell = 'source %s; COMP_WORDS=(motesim %s); COMP_CWORD=%d; _motesim; echo "${COMPREPLY[@]}"' % (
                 script, ' '.join(typed), len(typed))

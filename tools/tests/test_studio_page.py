@@ -124,7 +124,7 @@ class Page(InStudio):
 
     def test_what_is_hardly_meant_is_warned_of(self) -> None:
         self.open()
-        self.assertIn('Warning (timer-never-set): ', self.shown('warnings'))
+        self.wait('by("warnings").innerText.includes("Warning (timer-never-set): ")')
         self.press_in('warnings', '`beat`')
         self.assertEqual(self.value('(it => it.value.slice(it.selectionStart, it.selectionEnd))(by("text"))'), 'beat')
         self.put(NET.replace('etimer beat;', ''))
