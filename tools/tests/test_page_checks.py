@@ -145,7 +145,8 @@ class Checks(InPage):
         self.open()
         self.value('m.web.pad.area.focus()')
         self.value('(it => { it.value = \'# expect: the net: exactly 75 packets sent\\n# expect: mote 1: exactly 3 '
-                   'lines "snd"\\n\' + it.value; it.dispatchEvent(new Event("input", {bubbles: true})); })(m.web.pad.area)')
+                   'lines "snd"\\n\' + it.value; '
+                   'it.dispatchEvent(new Event("input", {bubbles: true})); })(m.web.pad.area)')
         self.wait('by("tried").textContent.includes("Left out: 1 expectation.")')
         self.assertIn('can\'t be read from here on: snd"', self.value('by("held").textContent').replace('"snd', 'snd'))
 
