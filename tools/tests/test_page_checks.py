@@ -136,8 +136,18 @@ class Checks(InPage):
         self.press('tab-checks')
         for words in 'the net: exactly 75 packets sent', 'mote 1: exactly 3 lines "snd"':
             self.value('(it => { it.value = %s; it.form.requestSubmit(); })(by("expect-asked"))' % json.dumps(words))
-        self.wait('m.checks.items.length === 2')
-        self.assertEqual(self.tab(), 'Checks 1/2')
+            self.wait('m.checks.items.length === 1')
+        self.wait('by("said").textContent.includes("read from here on: snd")')
+        self.assertEqual(self.value('(it => it.value.slice(it.selectionStart))(by("expect-asked"))'), 'snd"')
+        self.assertEqual(self.tab().split(' ·')[0], 'Checks 1/1')
+
+    def test_one_that_can_not_be_read_is_left_out_when_faults_are_tried(self) -> None:
+        self.open()
+        self.value('m.web.pad.area.focus()')
+        self.value('(it => { it.value = \'# expect: the net: exactly 75 packets sent\\n# expect: mote 1: exactly 3 '
+                   'lines "snd"\\n\' + it.value; '
+                   'it.dispatchEvent(new Event("input", {bubbles: true})); })(m.web.pad.area)')
+        self.wait('by("tried").textContent.includes("Left out: 1 expectation.")')
         self.assertIn('can\'t be read from here on: snd"', self.value('by("held").textContent').replace('"snd', 'snd'))
 
     def test_an_exercise_says_when_it_is_right(self) -> None:

@@ -504,7 +504,7 @@ def rows_of_state(state: dict[str, Any], changed: Sequence[str] = ()) -> Iterato
     if not state['queue']:
         yield Row('  the event queue is empty')
     if state['waiting_packets']:
-        yield Row('  %d packets wait for the radio process' % state['waiting_packets'])
+        yield Row('  %s waiting for the radio process' % count(state['waiting_packets'], 'packet'))
     for pair in state['semaphores'].items():
         yield Row('  semaphore %s = %d' % pair)
 

@@ -4,14 +4,14 @@ import {byId, element, makeButton, onSubmit} from '../../timeline/page/dom.js';
 import {redraw} from '../../timeline/page/draw.js';
 import {ringAt} from '../../timeline/page/lanes.js';
 import {setNow} from '../../timeline/page/play.js';
-import {page} from '../../timeline/page/stage.js';
+import {Refused, page} from '../../timeline/page/stage.js';
 import {sayWhy} from '../../timeline/page/why.js';
 import {answerIn} from './answers.js';
 import {claimsOfLine, suggestions, wordsOf} from './claims.js';
 import {EXPECT, commentsIn, withComment, withoutComment} from './comments.js';
 import {whyMissing} from './diff.js';
 import {beginFaults} from './faults.js';
-import {beginMeter, brokenNow, measure, sayVerdict} from './meter.js';
+import {beginMeter, brokenNow, forgetOthers, measure, sayVerdict} from './meter.js';
 import {attempt} from './outcome.js';
 import {change} from './web.js';
 
@@ -38,14 +38,14 @@ async function judge(text, number) {
 /** What motecheck answers to claims. One that can't be read is left out, and says where. @returns {Promise<any>} */
 async function decide(text, claims) {
   if (!claims.length) return {claims: [], unused: []};
-  const got = await page.backend.check(text, claims), refuse = (claim, why) => ({claim, verdict: 'refused',
-    because: {text: why}});
+  const got = await page.backend.check(text, claims), refuse = (claim, why, from = -1) => ({claim,
+    verdict: 'refused', because: {text: why, from}});
   if (got.superseded) return null;
   const [, row, column] = /claims fault line (\d+) column (\d+)/.exec(got.line || '') || [], at = Number(row) - 1;
   if (row) {
     const others = await decide(text, claims.filter((_, i) => i !== at)), rest = claims[at].slice(Number(column) - 1);
     return others && {...others, claims: [...others.claims, refuse(claims[at],
-      `It can't be read from here on: ${rest || 'its end'}`)]};
+      `It can't be read from here on: ${rest || 'its end'}`, Number(column) - 1)]};
   }
   if (got.answer !== undefined) return answerIn(got.answer);
   return {claims: claims.map(claim => refuse(claim, got.limit || got.line)), unused: []};
@@ -91,6 +91,15 @@ function itemOf({words, claims, verdicts, isOwn, remark = ''}) {
     ...isThere && !isOwn ? [small('Shrink', () => shrink(words),
       'Replace the text by a small scenario in which this is broken in the same way')] : [],
     element('span', remarks.filter(Boolean).join('\n'), [], {className: 'why'})])], {className: is});
+}
+
+/** Refuses a claim of the field that can't be read, and marks the place in it. */
+async function read(field, claim) {
+  const {text, from} = (await decide(web.shown, [claim]))?.claims[0].because || {};
+  if (!(from >= 0)) return;
+  field.focus();
+  field.setSelectionRange(from, field.value.length);
+  throw new Refused(text);
 }
 
 function expect(claim) { change(withComment(web.history.text, EXPECT, claim), 'edit'); }
@@ -142,12 +151,13 @@ export function beginChecks() {
     const field = byId('expect-asked'), words = field.value.trim();
     return words && attempt(async () => {
       const claim = page.backend.expect ? await page.backend.expect(words) : words;
+      if (claim) await read(field, claim);
       field.value = '';
       if (claim) expect(claim); else await judge(web.shown, web.number);
     });
   });
   page.reactions.ran.push((text, number) => attempt(() => judge(text, number)));
-  page.reactions.judged.push(showHeld, sayVerdict);
+  page.reactions.judged.push(forgetOthers, showHeld, sayVerdict);
   page.reactions.surveyed.push(showHeld);
   page.reactions.outdated.push(() => {
     byId('checks').classList.add('earlier');

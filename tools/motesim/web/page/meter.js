@@ -18,7 +18,11 @@ const AT_ONCE = 20000, MOST_SETS = 60;
 const LINES = 1000;
 const NOTE = 'The module in this page decides this. What is proved is about the native motecheck.';
 
-const isBroken = ({verdict}) => verdict !== 'holds', isWrong = it => it.verdicts.some(isBroken);
+const isBroken = ({verdict}) => verdict !== 'holds', isWrong = it => it.verdicts.some(isBroken),
+  isRefused = it => it.verdicts.some(({verdict}) => verdict === 'refused');
+
+/** The expectations that can be decided, and their claims: these are tried with faults. */
+const decided = () => checks.items.filter(it => !isRefused(it)), claimsNow = () => decided().flatMap(it => it.claims);
 
 /** The broken verdicts, each with its expectation. */
 export const brokenNow = () => checks.items.flatMap(it => it.verdicts.filter(isBroken).map(verdict => ({it, verdict})));
@@ -41,7 +45,7 @@ function setsOf(most) {
 const estimate = most => setsOf(most) * (checks.survey ? checks.survey.took / checks.survey.runs :
   0.2 + page.panes[0].run.rows / LINES);
 
-const canSurvey = () => checks.items.length > 0 && !checks.items.some(isWrong) && !faultsNow().length && setsOf(1) > 0;
+const canSurvey = () => claimsNow().length > 0 && !decided().some(isWrong) && !faultsNow().length && setsOf(1) > 0;
 
 /** The sets of faults that break what must also hold with faults, each with the claims that it breaks. */
 export function breaking(survey) {
@@ -61,7 +65,15 @@ export function breaking(survey) {
 function pinsIn({claims}) {
   const pins = checks.items.filter(it => 2 * claims.reduce((sum, {claim, sets}) =>
     sum + (it.claims.includes(claim) ? sets.length : 0), 0) > setsOf(1));
-  return new Set(kindsIn(checks.text) || pins.length === checks.items.length ? [] : pins.map(it => it.words));
+  return new Set(kindsIn(checks.text) || pins.length === decided().length ? [] : pins.map(it => it.words));
+}
+
+const forget = () => Object.assign(checks, {survey: null, pairs: null, weak: [], without: new Set()});
+
+/** Forgets the faults that break other claims than those of now. */
+export function forgetOthers() {
+  const known = checks.survey?.claims.map(it => it.claim) || [];
+  if (!claimsNow().every(it => known.includes(it))) forget();
 }
 
 /** Tries single faults, unless this is known already or needs long. */
@@ -77,7 +89,7 @@ async function survey(most) {
   const seconds = count(Math.ceil(estimate(most) / 1000), 'second');
   byId('tried').textContent = `Up to ${digits(setsOf(most) + 1)} runs, about ${seconds} …`;
   const [{run}] = page.panes, options = KINDS.filter(([, name]) => kinds.includes(name)).map(([,, its]) => its(run));
-  const got = await page.backend.check(bare(web.history.text), checks.items.flatMap(it => it.claims),
+  const got = await page.backend.check(bare(web.history.text), claimsNow(),
     [...options, `--at-most=${most}`, `--runs=${2 ** 32}`]);
   if (number !== web.number || got.superseded) return;
   byId('survey-progress').hidden = true;
@@ -93,11 +105,12 @@ async function survey(most) {
 
 function surveyInWords(survey) {
   const {covered, runs, is_whole, took, most} = survey, {length} = breaking(survey);
+  const out = checks.items.filter(isRefused).length, left = out ? ` Left out: ${count(out, 'expectation')}.` : '';
   const found = length ? `${digits(length)} break${length > 1 ? '' : 's'} it` : is_whole ? 'None breaks it' :
     'Not broken so far';
   const what = !is_whole ? covered : `each ${most === 1 ? 'single fault of these kinds' :
     'fault of these kinds and each pair'}`;
-  return `Covered: ${what}, by ${count(runs, 'run')} in ${digits(Math.max(1, Math.round(took)))} ms. ${found}.`;
+  return `Covered: ${what}, by ${count(runs, 'run')} in ${digits(Math.max(1, Math.round(took)))} ms. ${found}.${left}`;
 }
 
 /** Shows what is known of faults, and the buttons to try others. */
@@ -110,7 +123,7 @@ function showMeter() {
   byId('try-pairs').hidden = !can || !singles || Boolean(pairs);
   byId('tried').textContent = found ? surveyInWords(found) : can ? '' : !checks.items.length ?
     'Say what must hold; then faults are tried.' : own.length ? 'Other faults are tried in the run without faults.' :
-    'Faults are tried when everything holds without them.';
+    kindsNow().length ? 'Faults are tried when everything holds without them.' : 'Tick a kind of fault to try.';
   byId('breaking').replaceChildren(...sets.slice(0, MOST_SETS).map(({key, faults, claims}) =>
     makeButton(`✗ ${key}`, () => take(faults.map(it => it.text)), {title: `It breaks: ${claims.join('\n')}`,
       'aria-pressed': String(faults.every(it => own.includes(it.text)))})),
@@ -128,7 +141,7 @@ function verdictInWords() {
   const {items, survey: found, text} = checks, isExercise = kindsIn(text) !== null, own = faultsNow().length;
   const [wrong, ...others] = items.filter(isWrong), held = items.length === 1 ? items[0].words :
     `all ${items.length} expectations hold`;
-  const refused = items.find(it => it.verdicts.some(({verdict}) => verdict === 'refused'));
+  const refused = items.find(isRefused);
   if (!items.length) return '';
   if (refused) return `not decided: ${refused.words}. Its words can't be read: see Checks.`;
   if (wrong) return `broken: ${wrong.words}${others.length ? `, and ${others.length} more of ${items.length}` : ''}.`;
@@ -162,8 +175,7 @@ export function beginMeter() {
   page.reactions.outdated.push(() => {
     page.backend.endSurvey();
     label('Checks');
-    if (bare(web.history.text) !== bare(checks.text))
-      Object.assign(checks, {survey: null, pairs: null, weak: [], without: new Set()});
+    if (bare(web.history.text) !== bare(checks.text)) forget();
     byId('survey-progress').hidden = true;
   });
 }
