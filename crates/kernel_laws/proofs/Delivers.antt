@@ -4,6 +4,7 @@ use Rattle.std.proofs.lemmas.List.{map-append}
 use Rattle.std.specs.List.{All}
 use Rattle.std.proofs.lemmas.List.Elements.{All-head, All-tail, All-nil, All-cons}
 use Rattle.std.proofs.lemmas.Bool.Decides.{nat_tests}
+use Rattle.process_kernel.proofs.Lists.{is_found_in-numbered}
 use Rattle.kernel_laws.specs.HandedOn.{is_on, ToAll, ToOne}
 use Rattle.kernel_laws.specs.Delivery.{DeliveryMachine, take_or_drop, DeliveryRuns, stays, Halts}
 use Rattle.kernel_laws.specs.View.{machine_at}
@@ -114,10 +115,6 @@ small_numbers : (k n : ℕ) (ms : List Member) → k + length ms ≡ n → All (
 small_numbers k n [] e = All-nil _
 small_numbers k n (m ∷ ms) e = All-cons (λ i. i.number < n) _ _ (omega arith) (small_numbers (k + 1) n ms (omega arith))
 
-pub listed_again : (k : ℕ) (ms : List Member) (p : Proc) → is_found_in (numbered_from k ms) p ≡ is_found_in ms p
-listed_again k [] p = refl
-listed_again k (m ∷ ms) p = rw (listed_again (k + 1) ms p) refl
-
 pub begun_run : (s : KernelState) (moment walked : ℕ) → DeliveryRuns (machine_of s walked []) [] (machine_of (begun_of s moment) walked [])
 unfolding begun_of
 begun_run s moment walked = numbers (view_of s) walked (map seen_member (numbered_from 0 s.members)) (length s.members) (same_processes 0 s.members) (small_numbers 0 (length s.members) s.members (omega arith))
@@ -128,7 +125,7 @@ begun_lines s moment = sym (append-nil s.lines)
 
 pub begun_sound : (s : KernelState) (moment : ℕ) → SystemStays s → SystemStays (begun_of s moment)
 unfolding begun_of
-begun_sound s moment h = record { stays = listed_again 0 s.members Etimer ∙ h.stays; fits = h.fits }
+begun_sound s moment h = record { stays = is_found_in-numbered 0 s.members Etimer ∙ h.stays; fits = h.fits }
 
 module _ (calls : Calls) (are : AreRuns calls) where
   pub polls_due_run : (s : KernelState) → Reach (Unit {0}) s (do_poll_if_requested calls s)

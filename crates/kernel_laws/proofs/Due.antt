@@ -26,7 +26,8 @@ use Rattle.kernel_laws.specs.Poll.{PollWaits, CanBePolled, members_before}
 use Rattle.kernel_laws.specs.Due.{IsDueFor, ForgetsNone, IsAtRest, HasTelling, TellsDue, PollsEtimer, BootForgetsNone, RunForgetsNone, RunTellsDue}
 use Rattle.kernel_laws.proofs.Packets.{IfGoes}
 use Rattle.kernel_laws.proofs.Steps.{calls_run}
-use Rattle.kernel_laws.proofs.Delivers.{RestsAt, machine_of, listed_again, begun_sound}
+use Rattle.process_kernel.proofs.Lists.{is_found_in-numbered}
+use Rattle.kernel_laws.proofs.Delivers.{RestsAt, machine_of, begun_sound}
 use Rattle.kernel_laws.proofs.Motes.{run_rests, boot_rests}
 use Rattle.kernel_laws.proofs.Traces.{no_lines_first}
 use Rattle.kernel_laws.proofs.InStep as tables
@@ -72,7 +73,7 @@ module _ (m : KernelModel) (moment : ℕ) (lines : List Line) (sends : List Sent
 
   begun_listed : (p : Proc) → is_listed m.state p ≡ true → is_listed (begun m moment lines sends) p ≡ true
   unfolding begun_of
-  begun_listed p h = listed_again 0 m.state.members p ∙ h
+  begun_listed p h = is_found_in-numbered 0 m.state.members p ∙ h
 
   begun_room : has_process m.state Radio ≡ true → nat_lt 2 (length m.state.needs_poll) ≡ true → (has_process (begun m moment lines sends) Radio ≡ true) × (nat_lt 2 (length (begun m moment lines sends).needs_poll) ≡ true)
   unfolding begun_of

@@ -1,17 +1,15 @@
 -- The motes of a net by their numbers.
-use Rattle.std.proofs.Common.{◌≡◌, ◌<◌, ◌≤◌, ℕ, zero, suc, List, [], ◌∷◌, map, length, get_or, refl, ap, arith, Some, slice_get, sym, ◌∙◌, Bool, true, IsTrue}
+use Rattle.std.proofs.Common.{◌≡◌, ◌<◌, ℕ, zero, suc, List, [], ◌∷◌, map, length, get_or, refl, ap, arith, Some, slice_get, sym, ◌∙◌, Bool, true, IsTrue}
 use Rattle.std.proofs.lemmas.List.{length-map}
 use Rattle.std.proofs.lemmas.Bool.{and_parts}
 use Rattle.std.specs.List.{list_all}
-use borrow.Author.Tests.{ltb-true, leb-true}
+use borrow.Author.Tests.{ltb-true}
 use Rattle.program_tree.specs.Program.{tree_of}
 use Rattle.mote_net.specs.declared.net.MoteSetup.{MoteSetup as SetupOfCode}
 use Rattle.mote_net.specs.declared.programs.NamedProgram.{NamedProgram}
 use Rattle.mote_net.specs.Programs.{NamedTree}
-use Rattle.mote_net.specs.Meaning.{named_tree}
+use Rattle.mote_net.specs.Meaning.{named_tree, setup_of, program_at}
 use Rattle.mote_net.specs.Motes.{is_mote_of}
-use Rattle.mote_net.specs.Limits.{shortest_queue, longest_queue}
-use Rattle.mote_net.specs.Meaning.{setup_of, program_at}
 
 pub slice_get-map : {X Y : Type 0} (f : X → Y) (xs : List X) (i : ℕ) (d : X) → i < length xs → slice_get (map f xs) i ≡ Some (f (get_or xs i d))
 slice_get-map f [] i d h = absurd (omega arith)
@@ -45,12 +43,6 @@ mote_fits ps ms i m all there m-is =
 
 pub program_within : (n : ℕ) (m : SetupOfCode) → is_mote_of n m ≡ true → m.program < n
 program_within n m h = ltb-true _ _ (and_parts _ _ h).0
-
-pub queue_at_least : (n : ℕ) (m : SetupOfCode) → is_mote_of n m ≡ true → shortest_queue ≤ m.queue
-queue_at_least n m h = leb-true _ _ (and_parts _ _ (and_parts _ _ h).1).0
-
-pub queue_at_most : (n : ℕ) (m : SetupOfCode) → is_mote_of n m ≡ true → m.queue ≤ longest_queue
-queue_at_most n m h = leb-true _ _ (and_parts _ _ (and_parts _ _ h).1).1
 
 -- the mote at an index and its program
 pub program_of_mote : (ps : List NamedProgram) (ms : List SetupOfCode) (i : ℕ) (m : SetupOfCode) (p : NamedProgram)

@@ -32,13 +32,6 @@ pub record HeardSoFar (moment : ℕ) (packets later : List Arrival) (first : Und
   pub grows : ring_of first ≤ ring_of u
   pub matches : any ≡ nat_lt (ring_of first) (ring_of u)
 
-pub none_heard : (n : ℕ) → false ≡ nat_lt n n
-none_heard n = sym (grind (arith, nat_tests))
-
-pub heard_none : (moment : ℕ) (packets : List Arrival) (first : Underway) (by_now : Option Underway) → by_now ≡ Some first
-    → HeardSoFar moment packets packets first by_now false
-heard_none moment packets first by_now is = record { u = first; is = is; rest = refl; grows = omega arith; matches = none_heard (ring_of first) }
-
 pub room_at : (old : Option KernelModel) (out : Out) (u : Underway) (heard : Bool) → IfSome old (λ m. heard ≡ has_room m) → underway_in old out ≡ Some u → heard ≡ has_room u.mote
 room_at None out u heard h is = cc
 room_at (Some m) out u heard h is =

@@ -11,8 +11,7 @@ use Rattle.program_tree.specs.declared.event.Proc.TheVariants.{Own, Etimer, Ctim
 use Rattle.mote_timers.specs.Numbers.{is_member}
 use Rattle.mote_timers.specs.Processes.{is_same}
 use Rattle.mote_timers.specs.Timer.{expiration}
-use Rattle.mote_timers.specs.TimerLists.{TimerLists, timer_at, new_timers, set_timer, reset_timer, restart_timer}
-use Rattle.mote_timers.specs.TimerLists.{stop_timer, purge_timers, next_expiration_of, least}
+use Rattle.mote_timers.specs.TimerLists.{TimerLists, timer_at, new_timers, set_timer, reset_timer, restart_timer, stop_timer, purge_timers, next_expiration_of, least}
 use Rattle.mote_timers.specs.DueTimers.{first_due}
 use Rattle.mote_timers.specs.TimerCalls.{TimerCall, Set, Reset, Restart, Stop, Fire, Purge, timers_after_call, timers_after_calls, TakesOff, Starts, NoneTakesOff, NoneStarts, ListedOnce, CallsKeepTimers, DueFromExpiration, DueFromSet, DueFromNextExpiration}
 use Rattle.mote_timers.proofs.NumberLists.{IsDistinct-with, IsDistinct-filter, is_member-with, is_member-kept, is_member-filter}
@@ -24,9 +23,7 @@ unfolding timers_after_call set_timer reset_timer restart_timer stop_timer purge
 listed_once_after s (Set id owner interval now) once = IsDistinct-with id s.listed once
 listed_once_after s (Reset id owner) once = IsDistinct-with id s.listed once
 listed_once_after s (Restart id owner now) once = IsDistinct-with id s.listed once
-listed_once_after s (Stop id) once = IsDistinct-filter _ s.listed once
-listed_once_after s (Fire id) once = IsDistinct-filter _ s.listed once
-listed_once_after s (Purge owner) once = IsDistinct-filter _ s.listed once
+listed_once_after s x once = IsDistinct-filter _ s.listed once
 
 listed_once_from : (s : TimerLists) (calls : List TimerCall) → IsDistinct eqb s.listed → IsDistinct eqb (timers_after_calls s calls).listed
 listed_once_from s [] once = once
@@ -55,16 +52,10 @@ timers_stay s (call ∷ calls) = timers_stay (timers_after_call s call) calls �
 
 same_proc : (p q : Proc) → is_same p q ≡ true → q ≡ p
 same_proc (Own a) (Own b) same = let is : b ≡ a = grind (arith, nat_tests) in ap Own is
-same_proc (Own a) Etimer same = absurd (grind (arith, nat_tests))
-same_proc (Own a) Ctimer same = absurd (grind (arith, nat_tests))
-same_proc (Own a) Radio same = absurd (grind (arith, nat_tests))
-same_proc Etimer (Own b) same = absurd (grind (arith, nat_tests))
 same_proc Etimer Etimer same = refl
-same_proc Ctimer (Own b) same = absurd (grind (arith, nat_tests))
 same_proc Ctimer Ctimer same = refl
-same_proc Radio (Own b) same = absurd (grind (arith, nat_tests))
 same_proc Radio Radio same = refl
-same_proc _ _ same = absurd (false≢true same)
+same_proc p q same = absurd (grind (arith, nat_tests))
 
 owner_is : (p : Proc) (owner : Option Proc) → option_map_or (is_same p) owner false ≡ true → owner ≡ Some p
 owner_is p None owned = absurd (false≢true owned)

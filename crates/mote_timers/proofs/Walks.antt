@@ -17,7 +17,7 @@ is_member-found p (k ∷ ks) x found =
     (λ _ there. or_right (eqb x k) _ (is_member-found p ks x there))
     found
 
-after_first-cons : (a k : ℕ) (ks : List ℕ) → after_first (λ o. o == a) (k ∷ ks) ≡ cond (k == a) ks (after_first (λ o. o == a) ks)
+pub after_first-cons : (a k : ℕ) (ks : List ℕ) → after_first (λ o. o == a) (k ∷ ks) ≡ cond (k == a) ks (after_first (λ o. o == a) ks)
 after_first-cons a k ks =
     let n : ℕ = position_or_len (λ o. o == a) ks in
     elim (k == a) as (λ b. drop (cond (not b) (1 + n) 0 + 1) (k ∷ ks) ≡ cond b ks (drop (n + 1) ks)) [

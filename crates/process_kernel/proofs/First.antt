@@ -30,12 +30,6 @@ drop_from [] i x is = cc
 drop_from (y ∷ ys) zero x is = let same : y ≡ x = cc in ap (λ z. z ∷ ys) same
 drop_from (y ∷ ys) (suc i) x is = let more : suc i + 1 ≡ suc (i + 1) = omega arith in drop_from ys i x is ∙ ap (λ n. x ∷ drop n (y ∷ ys)) (sym more)
 
-pub drop_past : {A : Type 0} (xs : List A) (i : ℕ) → length xs ≤ i → drop i xs ≡ []
-drop_past [] zero past = refl
-drop_past [] (suc i) past = refl
-drop_past (x ∷ xs) zero past = absurd (omega arith)
-drop_past (x ∷ xs) (suc i) past = drop_past xs i (omega arith)
-
 -- the variables of one more process
 pub one_more : (cs : List Code) (i : ℕ) (c : Code) (vs ws : List (List ℕ)) → slice_get cs i ≡ Some c → ws ≡ vs ++ c.starts ∷ [] → vs ++ map (λ x. x.starts) (drop i cs) ≡ map (λ x. x.starts) cs
     → ws ++ map (λ x. x.starts) (drop (i + 1) cs) ≡ map (λ x. x.starts) cs

@@ -1,7 +1,6 @@
 -- Process lists.
 use Rattle.std.specs.Prelude.{slice_set, slice_index_or}
-use Rattle.std.proofs.Common.{ℕ, zero, suc, ◌++◌, take, drop, ◌≡◌, ◌+◌, ◌<◌, ◌≤◌, Bool, true, false, not, ◌&&◌, eqb}
-use Rattle.std.proofs.Common.{List, [], ◌∷◌, length, map, filter, refl, ap, sym, ◌∙◌, arith}
+use Rattle.std.proofs.Common.{ℕ, zero, suc, ◌++◌, take, drop, ◌≡◌, ◌+◌, ◌<◌, ◌≤◌, Bool, true, false, not, ◌&&◌, eqb, List, [], ◌∷◌, length, map, filter, refl, ap, sym, ◌∙◌, arith}
 use Rattle.std.specs.List.{All, AllByRecursion, IsDistinct, refill}
 use Rattle.std.proofs.lemmas.Bool.{or_parts, and_parts, cond_both, not-true, eqb-true, not_from_false}
 use Rattle.std.proofs.lemmas.List.Elements.{All-cons, All-contains, recursion_from_All, All-from_recursion}
@@ -95,7 +94,7 @@ AreMembers-filter f ms n are = record {
 }
 
 -- new numbers change no process
-is_found_in-numbered : (k : ℕ) (ms : List Member) (p : Proc) → is_found_in (numbered_from k ms) p ≡ is_found_in ms p
+pub is_found_in-numbered : (k : ℕ) (ms : List Member) (p : Proc) → is_found_in (numbered_from k ms) p ≡ is_found_in ms p
 is_found_in-numbered k [] p = refl
 is_found_in-numbered k (m ∷ ms) p = rw (is_found_in-numbered (k + 1) ms p) refl
 

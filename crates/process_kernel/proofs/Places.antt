@@ -1,13 +1,11 @@
 -- Places in a list at which a test holds.
-use Rattle.std.proofs.Common.{ℕ, zero, suc, ◌≡◌, ◌+◌, ◌<◌, Bool, true, false, eqb, List, [], ◌∷◌, drop, Option}
-use Rattle.std.proofs.Common.{Some, None, refl, ap, sym, ◌∙◌, arith, ◌↔◌, IsTrue}
-use Rattle.std.specs.Prelude.{slice_get, Contains, unwrap_or}
+use Rattle.std.proofs.Common.{ℕ, zero, suc, ◌≡◌, ◌+◌, ◌<◌, Bool, true, false, eqb, List, [], ◌∷◌, drop, Option, Some, None, refl, ap, sym, ◌∙◌, arith, ◌↔◌, IsTrue}
+use Rattle.std.specs.Prelude.{slice_get, Contains, unwrap_or, length, ◌≤◌, IsNone}
 use Rattle.std.specs.List.{list_any}
 use Rattle.std.proofs.lemmas.Bool.{cond_both, eqb-true, eq-eqb, false_from_ne_true}
 use Rattle.std.proofs.lemmas.Map.Views.{Contains-from_any, list_any-from_Contains}
 use Rattle.std.proofs.lemmas.Cmp.{nat_eq_equiv}
 use Rattle.std.proofs.lemmas.Option.{slice_get_past, slice_get-get_or}
-use Rattle.std.specs.Prelude.{length, ◌≤◌, IsNone}
 use Rattle.program_tree.specs.declared.event.Proc.{Proc}
 use Rattle.mote_timers.specs.declared.timer.Timer.{Timer}
 use Rattle.mote_timers.specs.Timer.{unset}

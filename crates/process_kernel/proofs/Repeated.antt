@@ -14,10 +14,6 @@ pub record RunSoFar (most left moment : ℕ) (first : Underway) (by_now : Option
   pub is : by_now ≡ Some u
   pub rest : runs_of left moment u ≡ runs_of most moment first
 
-pub run_none : (most moment : ℕ) (first : Underway) (by_now : Option Underway) → by_now ≡ Some first
-    → RunSoFar most most moment first by_now
-run_none most moment first by_now is = record { u = first; is = is; rest = refl }
-
 abbrev pub run_once : ℕ → Underway → Given
 run_once moment u = run_given moment u.mote u.lines u.sends
 

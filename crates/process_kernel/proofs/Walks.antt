@@ -1,10 +1,9 @@
 -- The walk along the timer list.
-use Rattle.std.proofs.Common.{◌≡◌, ℕ, zero, suc, ◌+◌, ◌<◌, ◌≤◌, Bool, true, false, not, cond, ◌==◌, eqb, List, []}
-use Rattle.std.proofs.Common.{◌∷◌, length, length-drop, drop, Option, Some, None, refl, sym, ap, ◌∙◌, arith, subst}
-use Rattle.std.specs.List.{after_first, position_or_len, find}
-use Rattle.std.proofs.lemmas.Bool.{cond_both, not-true, eqb-true, eq-eqb, false≢true, false_from_ne_true}
-use Rattle.std.proofs.Common.{◌*◌, if◌then◌else◌, filter, Err}
+use Rattle.std.proofs.Common.{◌≡◌, ℕ, zero, suc, ◌+◌, ◌<◌, ◌≤◌, Bool, true, false, not, cond, ◌==◌, List, [], ◌∷◌, length, length-drop, Option, Some, None, refl, sym, ap, ◌∙◌, arith, subst, ◌*◌, if◌then◌else◌, Err}
+use Rattle.std.specs.List.{after_first, find}
+use Rattle.std.proofs.lemmas.Bool.{cond_both, eqb-true, eq-eqb, false≢true, false_from_ne_true}
 use Rattle.std.proofs.Math.Nat.{mul-le-mul_left}
+use Rattle.std.proofs.lemmas.Bool.Decides.{nat_tests}
 use Rattle.program_tree.specs.declared.event.Proc.{Proc}
 use Rattle.program_tree.specs.declared.event.Proc.TheVariants.{Etimer}
 use Rattle.program_tree.specs.declared.event.Target.TheVariants.{One}
@@ -13,21 +12,13 @@ use Rattle.mote_timers.specs.Numbers.{is_member, without_member}
 use Rattle.mote_timers.specs.Timer.{is_due}
 use Rattle.mote_timers.specs.TimerLists.{TimerLists, timer_at, stop_timer}
 use Rattle.mote_timers.specs.DueTimers.{members_after, first_due}
+use Rattle.mote_timers.proofs.Walks.{after_first-cons}
 use Rattle.process_kernel.specs.declared.machine.Stop.{Stop}
 use Rattle.process_kernel.specs.declared.machine.Stop.TheVariants.{Halted, Memory}
 use Rattle.process_kernel.specs.State.{KernelState, Outcome, Went, Goes, ◌>>=◌}
 use Rattle.process_kernel.specs.Posts.{process_post, process_poll, own_event}
 use Rattle.process_kernel.specs.Etimer.{fired_of, post_due, walk_timers, walks_of}
 use Rattle.process_kernel.specs.Views.{StepMatches}
-
-after_first-cons : (a k : ℕ) (ks : List ℕ)
-    → after_first (λ o. o == a) (k ∷ ks) ≡ cond (k == a) ks (after_first (λ o. o == a) ks)
-after_first-cons a k ks =
-    let n : ℕ = position_or_len (λ o. o == a) ks in
-    elim (k == a) as (λ b. drop (cond (not b) (1 + n) 0 + 1) (k ∷ ks) ≡ cond b ks (drop (n + 1) ks)) [
-      | true ↦ refl
-      | false ↦ let next : 1 + n + 1 ≡ suc (n + 1) = omega arith in ap (λ m. drop m (k ∷ ks)) next
-    ]
 
 after_first-here : (a k : ℕ) (ks : List ℕ) → k ≡ a → after_first (λ o. o == a) (k ∷ ks) ≡ ks
 after_first-here a k ks same =
@@ -175,26 +166,19 @@ module _ (s : KernelState) (after : Option ℕ) (x : ℕ) (o : Proc) (left : ℕ
       → StepMatches {A = Unit {0}} (Err stop) new (walk_timers (walks_of left) (members_after after s.timers.listed) s)
   halt_step stop new is = rw step (halts_through Bool (Unit {0}) stop new (process_post s (One o) (own_event Timer x)) _ is)
 
-few : (f : ℕ → Bool) (ks : List ℕ) → length (filter f ks) ≤ length ks
-few f [] = omega arith
-few f (k ∷ ks) =
-    let rest = few f ks in
-    cond_both (f k) (k ∷ filter f ks) (filter f ks) (λ (l : List ℕ). length l ≤ suc (length ks))
-    (λ _. omega (arith, rest)) (λ _. omega (arith, rest))
+le_without : (x : ℕ) (ks : List ℕ) → length (without_member x ks) ≤ length ks
+le_without x [] = omega arith
+le_without x (k ∷ ks) =
+    let few = le_without x ks in
+    cond_both (not (k == x)) (k ∷ without_member x ks) (without_member x ks) (λ (l : List ℕ). length l ≤ length (k ∷ ks)) (λ _. omega arith) (λ _. omega arith)
+
+less_by : (x k : ℕ) (ks : List ℕ) → (b : Bool) → (k == x) ≡ b → is_member x (k ∷ ks) ≡ true → (is_member x ks ≡ true → length (without_member x ks) < length ks) → length (without_member x (k ∷ ks)) < length (k ∷ ks)
+less_by x k ks true e h later = let few = le_without x ks in rw e (omega arith)
+less_by x k ks false e h later = let there : is_member x ks ≡ true = grind (arith, nat_tests) in let less = later there in rw e (omega arith)
 
 pub fewer_without : (x : ℕ) (ks : List ℕ) → is_member x ks ≡ true → length (without_member x ks) < length ks
-fewer_without x [] there = absurd (false≢true there)
-fewer_without x (k ∷ ks) there =
-    let rest = few (λ y. not (y == x)) ks in
-    cond_both (not (k == x)) (k ∷ without_member x ks) (without_member x ks)
-    (λ (l : List ℕ). length l < suc (length ks))
-    (λ away.
-    let other : (k == x) ≡ false = not-true (k == x) away in
-    let apart : eqb x k ≡ false =
-    false_from_ne_true (eqb x k)
-    (λ e. let same : x ≡ k = eqb-true x k e in false≢true (sym other ∙ eq-eqb k x (sym same))) in
-    let later = fewer_without x ks (rw apart at there) in omega (arith, later))
-    (λ _. omega (arith, rest))
+fewer_without x [] h = absurd (cc)
+fewer_without x (k ∷ ks) h = less_by x k ks (k == x) refl h (fewer_without x ks)
 
 pub square_less : (a b c : ℕ) → a < b → a * a + a < b * b + c
 square_less a b c h =

@@ -4,8 +4,7 @@ use Rattle.std.specs.Prelude.{slice_get, Result, Ok, Err, OnOk}
 use Rattle.std.proofs.lemmas.List.{append-nil, get_or_past, get_or_at, drop_all, length-map}
 use Rattle.program_tree.specs.declared.tree.Stmt.{Stmt}
 use Rattle.program_tree.specs.declared.instruction.Instruction.{Instruction}
-use Rattle.program_tree.specs.Tree.{Expression, Action, Statement, Body, Otherwise, does, branch, while, end, next, nothing}
-use Rattle.program_tree.specs.Tree.{otherwise, listed, other_block, size, statement_size, other_size}
+use Rattle.program_tree.specs.Tree.{Expression, Action, Statement, Body, Otherwise, does, branch, while, end, next, nothing, otherwise, listed, other_block, size, statement_size, other_size}
 use Rattle.program_tree.specs.Meaning.{body_of, statement_of}
 use Rattle.program_tree.specs.Flat.{rests, statement_rests, other_rests, rest_in, rest_at, Task, acts, tests, task_of, Tests, LeadsBy, Leads, IsFlat}
 use Rattle.program_tree.specs.Emits.{entry_of, other_entry_of, LeadFrom, Emits, EmitsStatement, EmitsOther, EmitsFirst}
@@ -247,11 +246,6 @@ drop_here (x ∷ ss) (suc k) s within is =
 
 pub drop_end : (ss : List Stmt) (k : ℕ) → length ss ≤ k → body_of (drop k (map statement_of ss)) ≡ end
 drop_end ss k past = ap body_of (drop_all k (map statement_of ss) (omega (arith, length-map ss statement_of)))
-
-pub size_dropped : (ss : List (Statement ℕ)) (k : ℕ) → size (body_of (drop k ss)) ≤ size (body_of ss)
-size_dropped ss zero = omega arith
-size_dropped [] (suc k) = omega arith
-size_dropped (s ∷ ss) (suc k) = omega (arith, size_dropped ss k)
 
 pub size_here : (ss : List Stmt) (k : ℕ) (s : Stmt) → k < length ss → s ≡ get_or ss k s
     → size (body_of (drop k (map statement_of ss))) ≡ statement_size (statement_of s) + size (body_of (drop (k + 1) (map statement_of ss)))

@@ -1,5 +1,5 @@
 -- Places of names. The set that stores the names finds these places.
-use Rattle.std.proofs.Common.{◌≡◌, ℕ, suc, ◌+◌, ◌≤◌, ◌<◌, slice_index_or, List, [], ◌∷◌, ◌++◌, map, length, cond, not, ◌||◌, nat_lt, Bool, true, false, Option, Some, None, is_some, refl, ap, sym, ◌∙◌, arith, if◌then◌else◌}
+use Rattle.std.proofs.Common.{◌≡◌, ℕ, suc, ◌+◌, ◌≤◌, ◌<◌, slice_index_or, List, [], ◌∷◌, ◌++◌, map, length, cond, not, ◌||◌, nat_lt, Bool, true, false, Some, None, refl, ap, sym, ◌∙◌, arith, if◌then◌else◌}
 use Rattle.std.specs.List.{position, position_or_len, list_any}
 use Rattle.std.specs.Prelude.{string_bytes, String}
 use Rattle.std.specs.Str.{bytes_eq}
@@ -62,14 +62,3 @@ name_at names x i e = sym (same_bytes _ _ (position-Some (λ y. bytes_eq x y) na
 pub place_below : (names : List (List ℕ)) (x : List ℕ) (i : ℕ) → place_in_names names x ≡ Some i → i < length names
 unfolding place_in_names
 place_below names x i e = (position-Some (λ y. bytes_eq x y) names i [] e).0
-
-pub place_in_none : (x : List ℕ) → place_in_names [] x ≡ None
-unfolding place_in_names
-place_in_none x = refl
-
-pub place_is : (names : List (List ℕ)) (x : List ℕ) (i : ℕ) → place_in_names names x ≡ Some i → place_in_names names (slice_index_or names i []) ≡ Some i
-place_is names x i e = ap (place_in_names names) (name_at names x i e) ∙ e
-
-pub is_none : (o : Option ℕ) (b : Bool) → b ≡ is_some o → b ≡ false → o ≡ None
-is_none None b e f = refl
-is_none (Some i) b e f = absurd (cc (e, f))

@@ -1,14 +1,11 @@
 -- The threads that are spawned in a block, and in the rests of its flat code.
-use Rattle.std.proofs.Common.{◌<◌, ◌≤◌}
-use Rattle.std.specs.List.{All}
+use Rattle.std.proofs.Common.{◌<◌, ◌≤◌, ◌≡◌, ℕ, zero, suc, ◌+◌, Bool, true, false, ◌&&◌, List, [], ◌∷◌, ◌++◌, length, map, Option, None, Some, option_map, refl, ap, sym, ◌∙◌, subst, arith, zero-add}
+use Rattle.std.specs.List.{All, ItemBy}
 use Rattle.std.proofs.lemmas.Bool.{ltb-false}
 use Rattle.std.proofs.lemmas.List.{length-map}
 use Rattle.std.proofs.lemmas.List.Elements.{All-get_or}
-use Rattle.std.proofs.lemmas.Option.{slice_get_past}
-use Rattle.std.proofs.Common.{◌≡◌, ℕ, zero, suc, ◌+◌, Bool, true, false, ◌&&◌, List, [], ◌∷◌, ◌++◌, length, map, Option, None, Some, option_map, refl, ap, sym, ◌∙◌, subst, arith, zero-add}
+use Rattle.std.proofs.lemmas.Option.{slice_get_past, slice_get-map, slice_get_read}
 use Rattle.std.specs.Prelude.{slice_get, IsTrue, IfSome}
-use Rattle.std.proofs.lemmas.Option.{slice_get-map, slice_get_read}
-use Rattle.std.specs.List.{ItemBy}
 use Rattle.program_tree.specs.Tree.{Action, Statement, Body, Otherwise, does, branch, while, end, next, nothing, otherwise, listed}
 use Rattle.program_tree.specs.Scope.{Within, expression_fits, action_fits, statement_fits, block_fits, other_fits, threads_fit, earlier_threads}
 use Rattle.program_tree.specs.Flat.{rests, statement_rests, other_rests, rest_in, rest_at, IsFlat}

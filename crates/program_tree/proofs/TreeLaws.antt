@@ -1,9 +1,7 @@
 -- Blocks as lists of statements, and the meaning of the variants of a statement.
-use Rattle.std.proofs.Common.{◌≡◌, ℕ, List, [], ◌∷◌, map, Option, Some, None, refl, ap, sym, ◌∙◌}
-use Rattle.program_tree.specs.Tree.{size, statement_size, other_size}
-use Rattle.program_tree.specs.Tree.{Statement, Body, end, next, nothing, otherwise, does, branch, while, listed}
-use Rattle.program_tree.specs.Meaning.{body_of, action_of, expression_of, otherwise_of, statement_layer, block_layer}
-use Rattle.program_tree.specs.Meaning.{statement_of, block_of}
+use Rattle.std.proofs.Common.{◌≡◌, ℕ, List, [], ◌∷◌, map, Option, Some, None, refl, ap, sym, ◌∙◌, option_map, suc, ◌+◌}
+use Rattle.program_tree.specs.Tree.{size, statement_size, other_size, Statement, Body, end, next, nothing, otherwise, does, branch, while, listed}
+use Rattle.program_tree.specs.Meaning.{body_of, action_of, expression_of, otherwise_of, statement_layer, block_layer, statement_of, block_of}
 use Rattle.program_tree.specs.declared.tree.Action.{Action}
 use Rattle.program_tree.specs.declared.tree.Expr.{Expr}
 use Rattle.program_tree.specs.declared.tree.Stmt.{Stmt, Do, If, While}
@@ -11,7 +9,6 @@ use Rattle.program_tree.specs.declared.tree.Block.{Block}
 use Rattle.program_tree.specs.declared.tree.Stmt.TheOpen as open_stmt
 use Rattle.program_tree.specs.declared.tree.Stmt.TheViews.{rolls-Do, rolls-If, rolls-While}
 use Rattle.program_tree.specs.declared.tree.Stmt.TheFolds.{fold-Block, fold-roll-Stmt, fold_out-Block}
-use Rattle.std.proofs.Common.{option_map, suc, ◌+◌}
 
 pub listed-body_of : {N : Type 0} (ss : List (Statement N)) → listed (body_of ss) ≡ ss
 listed-body_of [] = refl

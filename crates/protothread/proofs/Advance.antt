@@ -1,5 +1,5 @@
 -- The step of a thread, one statement or one end of a block at a time.
-use Rattle.std.proofs.Common.{◌≡◌, ℕ, zero, suc, ◌-◌, ◌<◌, ◌≤◌, Bool, true, false, if◌then◌else◌, List, [], ◌∷◌, ◌++◌, length, Option, refl, ap, sym, ◌∙◌, arith}
+use Rattle.std.proofs.Common.{◌≡◌, ℕ, zero, suc, ◌-◌, ◌<◌, ◌≤◌, Bool, true, false, if◌then◌else◌, List, [], ◌∷◌, ◌++◌, length, refl, ap, sym, ◌∙◌, arith}
 use Rattle.std.specs.Prelude.{nat_lt}
 use Rattle.std.proofs.lemmas.Bool.Decides.{nat_tests}
 use Rattle.program_tree.specs.declared.event.Event.{Event}
@@ -9,7 +9,7 @@ use Rattle.program_tree.specs.Code.{Code}
 use Rattle.program_tree.specs.Flat.{rest_at}
 use Rattle.protothread.specs.declared.part.Part.{Part}
 use Rattle.protothread.specs.declared.calls.Call.{Call}
-use Rattle.protothread.specs.declared.thread.LastAction.TheVariants.{AtRest, UnderWay, Pausing, RunAway}
+use Rattle.protothread.specs.declared.thread.LastAction.TheVariants.{AtRest, Pausing, RunAway}
 use Rattle.protothread.specs.declared.thread.Thread.{Thread}
 use Rattle.protothread.specs.declared.step.Op.{Op}
 use Rattle.protothread.specs.declared.step.Step.TheVariants as step
@@ -17,9 +17,10 @@ use Rattle.protothread.specs.declared.answer.PtState.{PtState}
 use Rattle.protothread.specs.declared.answer.PtState.TheVariants.{Ended}
 use Rattle.protothread.specs.Looks.{Looks}
 use Rattle.protothread.specs.Remainder.{Place, ended, at, before, spawner_place, settled, fresh_of, whole_of}
-use Rattle.protothread.specs.Step.{Advanced, Reached, goes_on, operates, answers, reached, continued, advanced_of, passed, yield_answer}
+use Rattle.protothread.specs.Step.{Advanced, Reached, reached, continued, advanced_of, passed, yield_answer}
 use Rattle.protothread.specs.Places.{part_body, yielding, Caller, innermost, callers_in, callers_of, nested, body_of_thread, thread_place, remainder_of}
 use Rattle.protothread.specs.Reach.{reached_at, GoesOnAt, OperatesSo, AnswersSo}
+use Rattle.protothread.proofs.Units.{follows, stepped, settles}
 use Rattle.protothread.proofs.CallLaws.{callers_in-push, length-callers_in}
 
 -- the number of spawns that a call passes, and the answer of a thread that yields
@@ -70,25 +71,12 @@ module _ (code : Code) (event : Event) (looks : Looks) (t : Thread) (vars : List
       less : (a b : ℕ) → a < b → nat_lt a b ≡ true
       less a b h = grind (arith, nat_tests)
 
-  pub goes_on_under_way : (into : Option ℕ) → t.last_action ≡ UnderWay into
-      → advanced_of code event looks (remainder_of code t) vars units ≡ continued code t.part event looks (thread_place code t) vars units
-  unfolding advanced_of
-  goes_on_under_way into under =
-      ap (λ m. advanced_of code event looks (record { part = t.part; last_action = m; place = thread_place code t }) vars units) under
-
   pub gives_up_now : t.last_action ≡ Pausing
       → advanced_of code event looks (remainder_of code t) vars units ≡ record { step = step.Done (yielding (length t.calls)); remainder = remainder_of code (record t { last_action = AtRest }); variables = vars; units = units }
   unfolding advanced_of
   gives_up_now pausing =
       ap (λ m. advanced_of code event looks (record { part = t.part; last_action = m; place = thread_place code t }) vars units) pausing
       ∙ ap (λ a. record { step = step.Done a; remainder = record { part = t.part; last_action = AtRest; place = thread_place code t }; variables = vars; units = units }) (yield_answer-thread_place code t)
-
-  pub stays_away : t.last_action ≡ RunAway
-      → advanced_of code event looks (remainder_of code t) vars units ≡ record { step = step.Runaway; remainder = remainder_of code t; variables = vars; units = units }
-  unfolding advanced_of
-  stays_away away =
-      ap (λ m. advanced_of code event looks (record { part = t.part; last_action = m; place = thread_place code t }) vars units) away
-      ∙ ap (λ m. record { step = step.Runaway; remainder = record { part = t.part; last_action = m; place = thread_place code t }; variables = vars; units = units }) (sym away)
 
 -- a place at a statement is settled
 settled-at : (cs : List Caller) (y : Bool) (s : Statement ℕ) (rest : List (Statement ℕ)) → settled (nested cs (at y s rest)) ≡ nested cs (at y s rest)
@@ -106,45 +94,19 @@ settled-end [] c = before_settled c.rest
 settled-end (d ∷ cs) c = ap (λ p. spawner_place d.thread p d.rest) (settled-end cs c)
 
 module _ (code : Code) (part : Part) (event : Event) (looks : Looks) where
-  -- the steps after one statement that was paid for
-  abbrev follows : (vars : List ℕ) (units : ℕ) → Reached → Advanced
-  follows vars units r =
-      elim r [
-        | goes_on changed p ↦ continued code part event looks p changed units
-        | operates o last_action p ↦ record { step = step.Op o; remainder = record { part = part; last_action = last_action; place = p }; variables = vars; units = units }
-        | answers a p ↦ record { step = step.Done a; remainder = record { part = part; last_action = AtRest; place = p }; variables = vars; units = units }
-      ]
-
   abbrev finished : (vars : List ℕ) (units : ℕ) → Advanced
   finished vars units = record { step = step.Done Ended; remainder = fresh_of code part; variables = vars; units = units }
 
-  -- a step from a settled place
-  abbrev stepped : (vars : List ℕ) (units : ℕ) → Place → Advanced
-  stepped vars zero q =
-      elim q [
-        | ended ↦ finished vars 0
-        | p ↦ record { step = step.Runaway; remainder = record { part = part; last_action = RunAway; place = p }; variables = vars; units = 0 }
-      ]
-  stepped vars (suc units) q =
-      elim q [
-        | ended ↦ finished vars (suc units)
-        | p ↦ follows vars units (reached code (whole_of code part) vars event looks p)
-      ]
-
-  settles : (p : Place) (vars : List ℕ) (units : ℕ) → continued code part event looks p vars units ≡ stepped vars units (settled p)
-  settles p vars zero = refl
-  settles p vars (suc units) = refl
-
   settled_same : (p q : Place) (vars : List ℕ) (units : ℕ) → settled p ≡ settled q → continued code part event looks p vars units ≡ continued code part event looks q vars units
-  settled_same p q vars units same = settles p vars units ∙ ap (λ r. stepped vars units r) same ∙ sym (settles q vars units)
+  settled_same p q vars units same = settles code part event looks p vars units ∙ ap (λ r. stepped code part event looks vars units r) same ∙ sym (settles code part event looks q vars units)
 
   at_statement : (cs : List Caller) (y : Bool) (s : Statement ℕ) (rest : List (Statement ℕ)) (vars : List ℕ) (units : ℕ)
-      → stepped vars (suc units) (nested cs (at y s rest)) ≡ follows vars units (reached code (whole_of code part) vars event looks (nested cs (at y s rest)))
+      → stepped code part event looks vars (suc units) (nested cs (at y s rest)) ≡ follows code part event looks vars units (reached code (whole_of code part) vars event looks (nested cs (at y s rest)))
   at_statement [] y s rest vars units = refl
   at_statement (c ∷ cs) y s rest vars units = refl
 
   without_unit : (cs : List Caller) (y : Bool) (s : Statement ℕ) (rest : List (Statement ℕ)) (vars : List ℕ)
-      → stepped vars 0 (nested cs (at y s rest)) ≡ record { step = step.Runaway; remainder = record { part = part; last_action = RunAway; place = nested cs (at y s rest) }; variables = vars; units = 0 }
+      → stepped code part event looks vars 0 (nested cs (at y s rest)) ≡ record { step = step.Runaway; remainder = record { part = part; last_action = RunAway; place = nested cs (at y s rest) }; variables = vars; units = 0 }
   without_unit [] y s rest vars = refl
   without_unit (c ∷ cs) y s rest vars = refl
 
@@ -163,8 +125,8 @@ module _ (code : Code) (part : Part) (event : Event) (looks : Looks) where
       let place : Place = thread_place code t in
       let cs : List Caller = callers_of code t in
       let in_state : place ≡ nested cs (at t.is_yielded s rest) = place_at t s rest here in
-      ap (λ u. continued code part event looks place vars u) none ∙ settles place vars 0
-      ∙ ap (λ q. stepped vars 0 q) (ap settled in_state ∙ settled-at cs t.is_yielded s rest)
+      ap (λ u. continued code part event looks place vars u) none ∙ settles code part event looks place vars 0
+      ∙ ap (λ q. stepped code part event looks vars 0 q) (ap settled in_state ∙ settled-at cs t.is_yielded s rest)
       ∙ without_unit cs t.is_yielded s rest vars
       ∙ ap (λ q. record { step = step.Runaway; remainder = record { part = part; last_action = RunAway; place = q }; variables = vars; units = 0 }) (sym in_state)
       ∙ ap (λ u. record { step = step.Runaway; remainder = record { part = part; last_action = RunAway; place = place }; variables = vars; units = u }) (sym none)
@@ -173,14 +135,14 @@ module _ (code : Code) (part : Part) (event : Event) (looks : Looks) where
   -- a statement that is paid for
   paid : (t : Thread) (s : Statement ℕ) (rest : List (Statement ℕ)) (vars : List ℕ) (units left : ℕ) (r : Reached)
       → t.part ≡ part → rest_at (body_of_thread code t) t.position ≡ s ∷ rest → units ≡ suc left → reached_at code t vars event looks s rest ≡ r
-      → continued code part event looks (thread_place code t) vars units ≡ follows vars left r
+      → continued code part event looks (thread_place code t) vars units ≡ follows code part event looks vars left r
   paid t s rest vars units left r same here spent made =
       let cs : List Caller = callers_of code t in
-      ap (λ u. continued code part event looks (thread_place code t) vars u) spent ∙ settles (thread_place code t) vars (suc left)
-      ∙ ap (λ q. stepped vars (suc left) q) (ap settled (place_at t s rest here) ∙ settled-at cs t.is_yielded s rest)
+      ap (λ u. continued code part event looks (thread_place code t) vars u) spent ∙ settles code part event looks (thread_place code t) vars (suc left)
+      ∙ ap (λ q. stepped code part event looks vars (suc left) q) (ap settled (place_at t s rest here) ∙ settled-at cs t.is_yielded s rest)
       ∙ at_statement cs t.is_yielded s rest vars left
-      ∙ ap (λ p. follows vars left (reached code (whole_of code p) vars event looks (nested cs (at t.is_yielded s rest)))) (sym same)
-      ∙ ap (λ q. follows vars left q) made
+      ∙ ap (λ p. follows code part event looks vars left (reached code (whole_of code p) vars event looks (nested cs (at t.is_yielded s rest)))) (sym same)
+      ∙ ap (λ q. follows code part event looks vars left q) made
 
   pub goes_on_from : (old : Thread) (s : Statement ℕ) (rest : List (Statement ℕ)) (flat : List Instruction) (new : Thread) (vars changed : List ℕ) (units left : ℕ)
       → old.part ≡ part → rest_at (body_of_thread code old) old.position ≡ s ∷ rest → units ≡ suc left

@@ -10,7 +10,7 @@ use Rattle.protothread.specs.declared.calls.Call.{Call}
 use Rattle.protothread.specs.declared.part.Part.{Part}
 use Rattle.protothread.specs.declared.part.Part.TheVariants as part
 use Rattle.protothread.specs.declared.thread.Thread.{Thread}
-use Rattle.protothread.specs.Calls.{before_number, Fall, AreNested, below_last, CanSpawn, SpawnsSo, IsLast}
+use Rattle.protothread.specs.Calls.{before_number, Fall, AreNested, below_last, CanSpawn, SpawnsSo}
 use Rattle.protothread.specs.Remainder.{statements_of, thread_block, whole_of}
 use Rattle.protothread.specs.Places.{body_or_end, part_body, thread_body, innermost, callers_in}
 use Rattle.protothread.specs.Reach.{home_of, IsFoundIn}
@@ -62,21 +62,6 @@ nested-room (c ∷ cs) t h low = omega (arith, fall-length (before_number c.thre
   where
     at_most : (k : ℕ) → min 7 k ≤ 7
     at_most k = omega arith
-
--- the last thread
-pub last_is : (cs : List Call) (o : Option Call) → slice_get cs (length cs - 1) ≡ o → IsLast cs o
-last_is [] None h = refl
-last_is [] (Some c) h = absurd (cc)
-last_is (d ∷ []) None h = absurd (cc)
-last_is (d ∷ []) (Some c) h = let same : d ≡ c = cc in ([], ap (λ x. x ∷ []) same)
-last_is (d ∷ e ∷ cs) o h = more d e cs o (last_is (e ∷ cs) o (ap (λ k. slice_get (d ∷ e ∷ cs) k) (back (length cs)) ∙ h))
-  where
-    back : (n : ℕ) → suc (suc n - 1) ≡ suc (suc n) - 1
-    back n = omega arith
-
-    more : (d e : Call) (cs : List Call) (o : Option Call) → IsLast (e ∷ cs) o → IsLast (d ∷ e ∷ cs) o
-    more d e cs None h = absurd (cc)
-    more d e cs (Some c) h = (d ∷ h.0, ap (λ l. d ∷ l) h.1)
 
 -- blocks as lists
 listed-or_end : (o : Option (Body ℕ)) → listed (body_or_end o) ≡ statements_of o

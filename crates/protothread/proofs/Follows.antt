@@ -1,14 +1,11 @@
 -- Each run of a thread follows its text.
-use Rattle.std.proofs.Common.{◌≡◌, ℕ, suc, ◌+◌, ◌-◌, ◌<◌, Bool, true, false, if◌then◌else◌, nat_lt, List, [], ◌∷◌}
-use Rattle.std.proofs.Common.{◌++◌, Option, None, Some, slice_set, refl, ap, sym, ◌∙◌, arith, append_assoc, subst}
-use Rattle.std.proofs.Common.{◌==◌}
+use Rattle.std.proofs.Common.{◌≡◌, ℕ, suc, ◌+◌, ◌-◌, ◌<◌, Bool, true, false, if◌then◌else◌, nat_lt, List, [], ◌∷◌, ◌++◌, Option, None, Some, slice_set, refl, ap, sym, ◌∙◌, arith, append_assoc, subst, ◌==◌}
 use Rattle.std.proofs.lemmas.Bool.Decides.{nat_tests}
 use Rattle.std.proofs.lemmas.List.{append-nil}
 use Rattle.program_tree.specs.declared.event.Proc.TheVariants.{Own}
 use Rattle.program_tree.specs.declared.event.Target.TheVariants.{One}
 use Rattle.program_tree.specs.EventNames.{sent, cast, continue}
-use Rattle.program_tree.specs.Tree.{Expression, is, yield, yield_until, spawn, restart, exit, pause, Statement, does}
-use Rattle.program_tree.specs.Tree.{branch, while, listed}
+use Rattle.program_tree.specs.Tree.{Expression, is, yield, yield_until, spawn, restart, exit, pause, Statement, does, branch, while, listed}
 use Rattle.program_tree.specs.Code.{Code}
 use Rattle.protothread.specs.declared.answer.PtState.{PtState}
 use Rattle.protothread.specs.declared.answer.PtState.TheVariants.{Waiting, Yielded, Exited}
@@ -20,18 +17,10 @@ use Rattle.protothread.specs.declared.step.Op.TheVariants.{Post}
 use Rattle.protothread.specs.declared.step.Step.TheVariants as step
 use Rattle.protothread.specs.State.{state_number}
 use Rattle.protothread.specs.Value.{holds, truth}
-use Rattle.protothread.specs.Remainder.{Place, ended, at, within, before, spawner_place, settled, Remainder}
-use Rattle.protothread.specs.Remainder.{thread_block, whole_of, fresh_of}
-use Rattle.protothread.specs.Step.{Advanced, goes_on, operates as stops, answers, passes_where, performed, other_block}
-use Rattle.protothread.specs.Step.{spawner_reached, reached, continued, passed, yield_answer, advanced_of}
-use Rattle.protothread.specs.Step.{variables_answered}
+use Rattle.protothread.specs.Remainder.{Place, ended, at, within, before, spawner_place, settled, Remainder, thread_block, whole_of, fresh_of}
+use Rattle.protothread.specs.Step.{Advanced, goes_on, operates as stops, answers, passes_where, performed, other_block, spawner_reached, reached, continued, passed, yield_answer, advanced_of, variables_answered}
 use Rattle.protothread.proofs.Units.{follows, stepped, settles}
-use Rattle.protothread.specs.Reading.{Sight, Happening, operates, gives_up, Completion, done, restarts, exits, in_state}
-use Rattle.protothread.specs.Reading.{IsDone, Restarts, with_answer, resumed, meaning, Awaits, met, again, never}
-use Rattle.protothread.specs.Reading.{Reads, passes, assigns, performs, waits, waits_last, yields, yields_until}
-use Rattle.protothread.specs.Reading.{yields_until_last, pauses, pauses_last, posts_last, spawn_ends, spawn_exits}
-use Rattle.protothread.specs.Reading.{spawn_in_state, restarted, restarted_last, exited, chooses, repeats, leaves}
-use Rattle.protothread.specs.Reading.{ReadsAll, nothing_left, in_turn, breaks_off, ReadsThread, once, block_again}
+use Rattle.protothread.specs.Reading.{Sight, Happening, operates, gives_up, Completion, done, restarts, exits, in_state, IsDone, Restarts, with_answer, resumed, meaning, Awaits, met, again, never, Reads, passes, assigns, performs, waits, waits_last, yields, yields_until, yields_until_last, pauses, pauses_last, posts_last, spawn_ends, spawn_exits, spawn_in_state, restarted, restarted_last, exited, chooses, repeats, leaves, ReadsAll, nothing_left, in_turn, breaks_off, ReadsThread, once, block_again}
 use Rattle.protothread.specs.Runs.{Runs, operated, operated_last, gave_up, gave_up_last, has_exited, has_ended}
 
 -- a run from a remainder, if its next step is the same with this many more units
@@ -250,9 +239,7 @@ module _ (code : Code) (part : Part) where
   elsewhere : (home : List (Statement ℕ)) (y : PtState) (c : Context home y) (rest others : List (Statement ℕ)) (became : Completion) (h : List Happening) (out : Completion)
       → (IsDone became → ⊥) → Next home y c rest became h out → Next home y c others became h out
   elsewhere home y c rest others (done now later vars) h out over f = absurd (over tt)
-  elsewhere home y c rest others (restarts now later vars) h out over f = f
-  elsewhere home y c rest others (exits now later vars) h out over f = f
-  elsewhere home y c rest others (in_state vars) h out over f = f
+  elsewhere home y c rest others x h out over f = f
 
   -- an operation
   does_op : (home : List (Statement ℕ)) (y : PtState) (c : Context home y) (p : Place) (rest : List (Statement ℕ)) (o : Op) (into : Option ℕ) (now : Sight) (later : List Sight) (vars : List ℕ) (h : List Happening) (out : Completion)

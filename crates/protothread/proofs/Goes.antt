@@ -97,12 +97,10 @@ module _ (code : Code) (part : Part) where
   -- after the post of a `pause`
   far_pause : (q : Place) (now : Sight) (later : List Sight) (vars : List ℕ) (h : List Happening) (out : Completion)
       → BehindStep (step.Done (yield_answer q)) AtRest q vars now later h out → (n : ℕ) × Again (λ q call calls v k o. Goes n q call calls v k o) (yield_answer q) q later vars h out
-  far_pause ended now [] vars h out f = (0, f)
   far_pause ended now (next ∷ later) vars h out f = (f.2.0, (f.0, f.1, f.2.1))
-  far_pause (at y s rest) now [] vars h out f = (0, f)
   far_pause (at y s rest) now (next ∷ later) vars h out f = (f.2.0, (f.0, f.1, f.2.1))
-  far_pause (within t p rest) now [] vars h out f = (0, f)
   far_pause (within t p rest) now (next ∷ later) vars h out f = (f.2.0, (f.0, f.1, f.2.1))
+  far_pause x now [] vars h out f = (0, f)
 
   abbrev BehindAll : Advanced → (now : Sight) → (later : List Sight) → List Happening → Completion → Type 0
   BehindAll a now later h out = BehindStep a.step a.remainder.last_action a.remainder.place a.variables now later h out
@@ -194,9 +192,7 @@ from_step code r now later vars units a h out e g =
 unmarked : (G : Place → Sight → List Sight → List ℕ → List Happening → Completion → Type 0) (m : LastAction) (q : Place) (now : Sight) (later : List Sight) (vars : List ℕ) (h : List Happening) (out : Completion)
     → Held G (action_answered m) q now later vars h out → Held G m q now later vars h out
 unmarked G AtRest q now later vars h out f = f
-unmarked G (UnderWay into) q now later vars h out f = f
-unmarked G Pausing q now later vars h out f = f
-unmarked G RunAway q now later vars h out f = f
+unmarked G x q now later vars h out f = f
 
 behind_gave_up : (code : Code) (part : Part) (answer : PtState) (m : LastAction) (q : Place) (now next : Sight) (later : List Sight) (vars : List ℕ) (h : List Happening) (out : Completion)
     → state_number answer < 2 → ((n : ℕ) × Held (λ q call calls v k o. Goes code part n q call calls v k o) m q next later vars h out)

@@ -4,7 +4,6 @@ pub mod CallLaws
 pub mod Effects
 pub mod Follows
 pub mod Goes
-pub mod Held
 pub mod Lists
 pub mod Own
 pub mod Reaching

@@ -10,26 +10,21 @@ use Rattle.program_tree.specs.declared.event.SystemEvent.TheVariants.{Exit}
 use Rattle.program_tree.specs.Events.{system_number}
 use Rattle.program_tree.specs.EventNames as event_name
 use Rattle.program_tree.specs.EventNames.{BroadcastEvent, cast_number}
-use Rattle.program_tree.specs.Tree.{Action, assign, print, send, wait_until, wait_while, yield, yield_until, spawn}
-use Rattle.program_tree.specs.Tree.{restart, exit, pause, acquire, signal, post, broadcast, synch, poll, start, kill}
-use Rattle.program_tree.specs.Tree.{set, reset, restart_timer, stop, Statement, does, branch, while}
+use Rattle.program_tree.specs.Tree.{Action, wait_until, wait_while, yield, yield_until, pause, acquire, broadcast, Statement, does}
 use Rattle.program_tree.specs.Code.{Code}
 use Rattle.protothread.specs.declared.part.Part.{Part}
 use Rattle.protothread.specs.declared.thread.LastAction.{LastAction}
 use Rattle.protothread.specs.declared.thread.LastAction.TheVariants.{AtRest, UnderWay, Pausing, RunAway}
 use Rattle.protothread.specs.declared.effect.StatementEffect.{StatementEffect}
-use Rattle.protothread.specs.declared.effect.StatementEffect.TheVariants.{Passes, Assigns, Operates, Pauses, Waits}
-use Rattle.protothread.specs.declared.effect.StatementEffect.TheVariants.{Yields, Spawns, Restarts, Exits}
+use Rattle.protothread.specs.declared.effect.StatementEffect.TheVariants.{Operates, Pauses, Waits, Yields}
 use Rattle.protothread.specs.declared.step.Op.{Op}
 use Rattle.protothread.specs.declared.step.Op.TheVariants.{Post, Synch, Poll, Start, Kill}
 use Rattle.protothread.specs.declared.step.Step.{Step}
 use Rattle.protothread.specs.declared.step.Step.TheVariants as step
-use Rattle.protothread.specs.declared.answer.PtState.TheVariants.{Waiting, Yielded, Exited, Ended}
 use Rattle.protothread.specs.Looks.{Looks}
 use Rattle.protothread.specs.Value.{value, holds}
 use Rattle.protothread.specs.Remainder.{Place, ended, at, within, settled, Remainder, thread_block, whole_of}
-use Rattle.protothread.specs.Step.{Reached, goes_on, operates, answers, passes_where, effect_of, performed}
-use Rattle.protothread.specs.Step.{spawner_reached, reached, continued, passed, advanced_of}
+use Rattle.protothread.specs.Step.{Reached, goes_on, operates, answers, passes_where, effect_of, performed, spawner_reached, reached, continued, passed, advanced_of}
 use Rattle.protothread.proofs.Units.{called, follows, stepped}
 
 abbrev pub IsOwn : Proc → Type 0
@@ -60,10 +55,7 @@ ReachedNamesOwn r = Unit {0}
 
 cast_is_no_exit : (e : BroadcastEvent ℕ) → cast_number e ≡ system_number Exit → ⊥
 cast_is_no_exit event_name.continue q = omega arith
-cast_is_no_exit event_name.msg q = omega arith
-cast_is_no_exit event_name.«com» q = omega arith
-cast_is_no_exit event_name.packet q = omega arith
-cast_is_no_exit (event_name.declared i) q = omega arith
+cast_is_no_exit x q = omega arith
 
 passes_own : (b : Bool) (d : StatementEffect) → DeedNamesOwn d → DeedNamesOwn (passes_where b d)
 passes_own true d h = tt
@@ -74,64 +66,33 @@ either_own true c d h k = h
 either_own false c d h k = k
 
 own_deed : (process : ℕ) (y : Bool) (vars : List ℕ) (event : Event) (looks : Looks) (a : Action ℕ) → DeedNamesOwn (effect_of process y vars event looks a)
-own_deed process y vars event looks (assign i e) = tt
-own_deed process y vars event looks (print e) = tt
-own_deed process y vars event looks (send e) = tt
 own_deed process y vars event looks (wait_until c) = passes_own (holds (value vars event looks c)) Waits tt
 own_deed process y vars event looks (wait_while c) = passes_own (not (holds (value vars event looks c))) Waits tt
 own_deed process y vars event looks yield = passes_own y Yields tt
 own_deed process y vars event looks (yield_until c) = passes_own (y && holds (value vars event looks c)) Yields tt
-own_deed process y vars event looks (spawn t) = tt
-own_deed process y vars event looks restart = tt
-own_deed process y vars event looks exit = tt
 own_deed process y vars event looks pause = either_own y _ _ (passes_own (event.number == 0x85) Yields tt) tt
 own_deed process y vars event looks (acquire s) = either_own (slice_index looks.counts s == 0) _ _ tt tt
-own_deed process y vars event looks (signal s) = tt
-own_deed process y vars event looks (post p e w into) = tt
 own_deed process y vars event looks (broadcast e w into) = λ q. cast_is_no_exit e q
-own_deed process y vars event looks (synch p e w) = tt
-own_deed process y vars event looks (poll p) = tt
-own_deed process y vars event looks (start p) = tt
-own_deed process y vars event looks (kill p) = tt
-own_deed process y vars event looks (set t e) = tt
-own_deed process y vars event looks (reset t) = tt
-own_deed process y vars event looks (restart_timer t) = tt
-own_deed process y vars event looks (stop t) = tt
+own_deed process y vars event looks x = tt
 
 own_performed : (code : Code) (whole : List (Statement ℕ)) (vars : List ℕ) (s : Statement ℕ) (rest : List (Statement ℕ)) (d : StatementEffect)
     → DeedNamesOwn d → ReachedNamesOwn (performed code whole vars s rest d)
-own_performed code whole vars s rest Passes h = tt
-own_performed code whole vars s rest (Assigns i v) h = tt
 own_performed code whole vars s rest (Operates o into) h = h
 own_performed code whole vars s rest (Pauses o) h = h
-own_performed code whole vars s rest Waits h = tt
-own_performed code whole vars s rest Yields h = tt
-own_performed code whole vars s rest (Spawns t) h = tt
-own_performed code whole vars s rest Restarts h = tt
-own_performed code whole vars s rest Exits h = tt
+own_performed code whole vars s rest x h = tt
 
 own_spawner : (t : ℕ) (rest : List (Statement ℕ)) (vars : List ℕ) (r : Reached) → ReachedNamesOwn r → ReachedNamesOwn (spawner_reached t rest vars r)
-own_spawner t rest vars (goes_on changed p) h = tt
 own_spawner t rest vars (operates o last_action p) h = h
-own_spawner t rest vars (answers Waiting p) h = tt
-own_spawner t rest vars (answers Yielded p) h = tt
-own_spawner t rest vars (answers Exited p) h = tt
-own_spawner t rest vars (answers Ended p) h = tt
+own_spawner t rest vars x h = tt
 
 own_reached : (code : Code) (whole : List (Statement ℕ)) (vars : List ℕ) (event : Event) (looks : Looks) (p : Place) → ReachedNamesOwn (reached code whole vars event looks p)
-own_reached code whole vars event looks ended = tt
 own_reached code whole vars event looks (at y (does a) rest) =
     own_performed code whole vars (does a) rest (effect_of code.number y vars event looks a) (own_deed code.number y vars event looks a)
-own_reached code whole vars event looks (at y (branch c a o) rest) = tt
-own_reached code whole vars event looks (at y (while c a) rest) = tt
 own_reached code whole vars event looks (within t p rest) =
     own_spawner t rest vars (reached code (thread_block code t) vars event looks p) (own_reached code (thread_block code t) vars event looks p)
+own_reached code whole vars event looks x = tt
 
 module _ (code : Code) (part : Part) (event : Event) (looks : Looks) where
-  own_finish : (vars : List ℕ) (units : ℕ) → StepNamesOwn (stepped code part event looks vars units ended).step
-  own_finish vars zero = tt
-  own_finish vars (suc units) = tt
-
   own_step : (units : ℕ) (p : Place) (vars : List ℕ) → StepNamesOwn (continued code part event looks p vars units).step
   own_step zero p vars =
       elim (settled p) as (λ q. StepNamesOwn (stepped code part event looks vars 0 q).step) [

@@ -1,6 +1,5 @@
 -- The effect of the innermost thread on the threads around it, and of the code on all of them.
-use Rattle.std.proofs.Common.{◌≡◌, ℕ, Bool, true, false, if◌then◌else◌, List, [], ◌∷◌, ◌++◌, length, refl, ap, sym}
-use Rattle.std.proofs.Common.{◌∙◌, subst}
+use Rattle.std.proofs.Common.{◌≡◌, ℕ, Bool, true, false, if◌then◌else◌, List, [], ◌∷◌, ◌++◌, length, refl, ap, sym, ◌∙◌, subst}
 use Rattle.std.specs.Prelude.{slice_set}
 use Rattle.std.proofs.lemmas.Bool.{ltb-true}
 use Rattle.program_tree.specs.declared.event.Event.{Event}
@@ -13,8 +12,7 @@ use Rattle.program_tree.proofs.Emitting.{rest_at-start}
 use Rattle.program_tree.proofs.Spawning.{action_fits_there}
 use Rattle.protothread.specs.declared.calls.Call.{Call}
 use Rattle.protothread.specs.declared.effect.StatementEffect.{StatementEffect}
-use Rattle.protothread.specs.declared.effect.StatementEffect.TheVariants.{Passes, Assigns, Operates, Pauses, Waits}
-use Rattle.protothread.specs.declared.effect.StatementEffect.TheVariants.{Yields, Spawns, Restarts, Exits}
+use Rattle.protothread.specs.declared.effect.StatementEffect.TheVariants.{Spawns}
 use Rattle.protothread.specs.declared.thread.Thread.{Thread}
 use Rattle.protothread.specs.declared.thread.LastAction.{LastAction}
 use Rattle.protothread.specs.declared.thread.LastAction.TheVariants.{AtRest}
@@ -25,8 +23,7 @@ use Rattle.protothread.specs.Looks.{Looks}
 use Rattle.protothread.specs.Value.{value, holds}
 use Rattle.protothread.specs.Remainder.{Place, at, within, before, thread_block, whole_of}
 use Rattle.protothread.specs.Step.{goes_on, operates, answers, spawner_reached, statement_reached, reached}
-use Rattle.protothread.specs.Places.{part_body, thread_body, innermost, Caller, callers_in, nested, yielding}
-use Rattle.protothread.specs.Places.{body_of_thread, callers_of, thread_place, place_by}
+use Rattle.protothread.specs.Places.{part_body, thread_body, innermost, Caller, callers_in, nested, yielding, body_of_thread, callers_of, thread_place, place_by}
 use Rattle.protothread.specs.Reach.{home_of, made_of, reached_at, IsDoneBy, EffectCanSpawn, IsFoundIn, GoesOnAt}
 use Rattle.protothread.proofs.CallLaws.{innermost-push, callers_in-push, listed-thread, listed-part, home_of-calls}
 
@@ -74,15 +71,8 @@ reached_here code t vars event looks s rest =
 
 -- an action spawns the threads of its statement
 pub deed_can : (cs : List Call) (s : Statement ℕ) (d : StatementEffect) → IsDoneBy s d → ((t : ℕ) → s ≡ does (spawn t) → CanSpawn cs t) → EffectCanSpawn cs d
-deed_can cs s Passes by can = tt
-deed_can cs s (Assigns i v) by can = tt
-deed_can cs s (Operates o into) by can = tt
-deed_can cs s (Pauses o) by can = tt
-deed_can cs s Waits by can = tt
-deed_can cs s Yields by can = tt
 deed_can cs s (Spawns t) by can = can t by
-deed_can cs s Restarts by can = tt
-deed_can cs s Exits by can = tt
+deed_can cs s x by can = tt
 
 -- a statement spawns only threads before its own thread
 pub spawn_there : (cs : List Call) (b : Body ℕ) (place t : ℕ) (rest : List (Statement ℕ)) → SpawnsSo cs b → rest_at b place ≡ does (spawn t) ∷ rest → CanSpawn cs t

@@ -1,13 +1,10 @@
 -- The text of a thread describes the actions of its runs.
-use Rattle.std.proofs.Common.{◌≡◌, ℕ, zero, suc, ◌<◌, ◌≤◌, Bool, true, false, not, if◌then◌else◌, List, [], ◌∷◌, ◌++◌}
-use Rattle.std.proofs.Common.{Option, None, Some, slice_set, slice_index, refl, ap, sym, ◌∙◌, arith, append_assoc}
-use Rattle.std.proofs.Common.{subst, ◌==◌}
+use Rattle.std.proofs.Common.{◌≡◌, ℕ, zero, suc, ◌<◌, ◌≤◌, Bool, true, false, not, if◌then◌else◌, List, [], ◌∷◌, ◌++◌, Option, None, Some, slice_set, slice_index, refl, ap, sym, ◌∙◌, arith, append_assoc, subst, ◌==◌}
 use Rattle.std.proofs.lemmas.List.{append-nil}
 use Rattle.program_tree.specs.declared.event.Proc.TheVariants.{Own}
 use Rattle.program_tree.specs.declared.event.Target.TheVariants.{One}
 use Rattle.program_tree.specs.EventNames.{sent, cast, continue}
-use Rattle.program_tree.specs.Tree.{Expression, is, Action, wait_until, wait_while, yield, yield_until, spawn, restart}
-use Rattle.program_tree.specs.Tree.{exit, pause, acquire, Statement, does, branch, while, listed}
+use Rattle.program_tree.specs.Tree.{Expression, is, Action, wait_until, wait_while, yield, yield_until, spawn, restart, exit, pause, acquire, Statement, does, branch, while, listed}
 use Rattle.program_tree.specs.Code.{Code}
 use Rattle.protothread.specs.declared.answer.PtState.{PtState}
 use Rattle.protothread.specs.declared.answer.PtState.TheVariants.{Waiting, Yielded, Exited, Ended}
@@ -19,16 +16,9 @@ use Rattle.protothread.specs.declared.step.Op.{Op}
 use Rattle.protothread.specs.declared.step.Op.TheVariants.{Post, Take}
 use Rattle.protothread.specs.State.{state_number}
 use Rattle.protothread.specs.Value.{holds}
-use Rattle.protothread.specs.Remainder.{Place, ended, at, within, before, spawner_place, settled, thread_block}
-use Rattle.protothread.specs.Remainder.{whole_of, fresh_of}
-use Rattle.protothread.specs.Step.{goes_on, operates as stops, answers, passes_where, performed, other_block}
-use Rattle.protothread.specs.Step.{spawner_reached, reached, yield_answer}
-use Rattle.protothread.specs.Reading.{Sight, Happening, operates, gives_up, Completion, done, restarts, exits, in_state}
-use Rattle.protothread.specs.Reading.{Restarts, with_answer, effect, meaning, Awaits, met, again, never, Reads, passes}
-use Rattle.protothread.specs.Reading.{assigns, performs, waits, waits_last, yields, yields_until, yields_until_last}
-use Rattle.protothread.specs.Reading.{pauses, pauses_last, posts_last, spawn_ends, spawn_exits, spawn_in_state}
-use Rattle.protothread.specs.Reading.{restarted, restarted_last, exited, chooses, repeats, leaves, ReadsAll}
-use Rattle.protothread.specs.Reading.{nothing_left, in_turn, breaks_off, ReadsThread, once, block_again}
+use Rattle.protothread.specs.Remainder.{Place, ended, at, within, before, spawner_place, settled, thread_block, whole_of, fresh_of}
+use Rattle.protothread.specs.Step.{goes_on, operates as stops, answers, passes_where, performed, other_block, spawner_reached, reached, yield_answer}
+use Rattle.protothread.specs.Reading.{Sight, Happening, operates, gives_up, Completion, done, restarts, exits, in_state, Restarts, with_answer, effect, meaning, Awaits, met, again, never, Reads, passes, assigns, performs, waits, waits_last, yields, yields_until, yields_until_last, pauses, pauses_last, posts_last, spawn_ends, spawn_exits, spawn_in_state, restarted, restarted_last, exited, chooses, repeats, leaves, ReadsAll, nothing_left, in_turn, breaks_off, ReadsThread, once, block_again}
 use Rattle.protothread.proofs.Follows.{IsLive, behind_end, is_true, is_false, heard, comes_to_an_end}
 use Rattle.protothread.proofs.Goes.{Again, Behind, StepOf, Goes, entering, runs_go}
 use Rattle.protothread.specs.Runs.{Runs}
@@ -336,16 +326,12 @@ module _ (code : Code) (part : Part) where
       → m ≤ n → (Restarts became → m < n) → h ≡ a ++ b → ReadsAll code y block now later vars a became → NextTo block y c [] m became b out
       → ((call : Sight) (calls : List Sight) (changed : List ℕ) → m < n → To m (c.place (before false block)) call calls changed b out → Split (λ a b. ReadsThread code y block call calls changed a b) (λ m b x o. NextTo block y c [] m b x o) m b out)
       → Split (λ a b. ReadsThread code y block now later vars a b) (λ m b x o. NextTo block y c [] m b x o) n h out
-  thread_so n block y c now later vars h a b (done call calls changed) out m low fewer same r g deeper =
-      simple block y c [] (λ a b. ReadsThread code y block now later vars a b) n m h a b (done call calls changed) out low same (once y block now later vars a (done call calls changed) (λ x. x) r) g
   thread_so n block y c now later vars h a b (restarts call calls changed) out m low fewer same r g deeper =
       mapped (λ a b. ReadsThread code y block call calls changed a b) (λ a b. ReadsThread code y block now later vars a b) (λ m b x o. NextTo block y c [] m b x o) n m h b out a low same
       (λ x o s. block_again y block now later vars a x call calls changed o r s)
       (deeper call calls changed (fewer tt) g)
-  thread_so n block y c now later vars h a b (exits call calls changed) out m low fewer same r g deeper =
-      simple block y c [] (λ a b. ReadsThread code y block now later vars a b) n m h a b (exits call calls changed) out low same (once y block now later vars a (exits call calls changed) (λ x. x) r) g
-  thread_so n block y c now later vars h a b (in_state changed) out m low fewer same r g deeper =
-      simple block y c [] (λ a b. ReadsThread code y block now later vars a b) n m h a b (in_state changed) out low same (once y block now later vars a (in_state changed) (λ x. x) r) g
+  thread_so n block y c now later vars h a b z out m low fewer same r g deeper =
+      simple block y c [] (λ a b. ReadsThread code y block now later vars a b) n m h a b z out low same (once y block now later vars a z (λ x. x) r) g
 
   threads : (k : ℕ) → AllAt k → (j n : ℕ) → n ≤ j → n ≤ k → (block : List (Statement ℕ)) (y : PtState) (c : Inside block y) (now : Sight) (later : List Sight) (vars : List ℕ) (h : List Happening) (out : Completion)
       → To n (c.place (before false block)) now later vars h out

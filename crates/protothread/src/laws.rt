@@ -1,6 +1,5 @@
 //! Laws of the step of a protothread: theorems, each stated as the contract of an empty function.
-ghost use Rattle.protothread.specs.Laws.{ControlIsGivenUpAtWaits, MoreUnitsChangeNothing, OperationsCostWork};
-ghost use Rattle.protothread.specs.Laws.{RunAwayIsForGood};
+ghost use Rattle.protothread.specs.Laws.{MoreUnitsChangeNothing, OperationsCostWork, RunAwayIsForGood};
 ghost use Rattle.protothread.specs.Runs.{RunsAreTheText};
 ghost use Rattle.protothread.specs.Semaphores.{CountsAreSignalsLessTakes};
 
@@ -19,13 +18,6 @@ pub fn run_away_is_for_good()
 /// end.
 pub fn operations_cost_work()
     ensures operations_cost_work { OperationsCostWork }
-{}
-
-/// A step answers 0 or 1 only if the thread, or the innermost thread that it spawned, waits or has restarted. The next
-/// call continues from that place. This is true of a sound thread: a fresh thread is sound, and each step keeps it
-/// sound.
-pub fn control_is_given_up_at_waits()
-    ensures control_is_given_up_at_waits { ControlIsGivenUpAtWaits }
 {}
 
 /// A semaphore's count is its first count plus the number of signals minus the number of takes, modulo 65,536.

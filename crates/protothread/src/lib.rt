@@ -17,7 +17,7 @@ mod vars;
 pub use answer::PtState;
 pub use fuel::Fuel;
 pub use laws::{
-    control_is_given_up_at_waits, counts_are_signals_less_takes, more_units_change_nothing,
+    counts_are_signals_less_takes, more_units_change_nothing,
     operations_cost_work, run_away_is_for_good, runs_are_the_text,
 };
 pub use look::Look;

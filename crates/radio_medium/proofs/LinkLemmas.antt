@@ -2,7 +2,6 @@
 use Rattle.std.proofs.Common.{◌≡◌, ℕ, zero, suc, ◌+◌, ◌*◌, ◌/◌, ◌^◌, ◌<◌, ◌≤◌, min, Bool, true, false, cond, if◌then◌else◌, List, [], ◌∷◌, ◌++◌, map, filter, length, get_or, Option, Some, None, inl, inr, refl, ap, sym, ◌∙◌, arith}
 use Rattle.std.specs.Prelude.{ℤ, pos, unsigned_abs, ◌-ℤ◌, All}
 use Rattle.std.specs.List.{flat_map, fold, range_with_len, reduce}
-use Rattle.std.specs.Option.{option_map_or}
 use Rattle.std.proofs.Math.Nat.{div-le_self, mul-le-mul_left}
 use Rattle.std.proofs.Math.Path.{fun_ext}
 use Rattle.std.proofs.lemmas.Bool.{cases_lt}
@@ -29,11 +28,6 @@ pub links_more : (f : ℕ → Link) (p : ℕ → Bool) (n : ℕ) → map f (filt
 links_more f p n =
     rw (range-more 0 n n (omega arith), filter-append p (range_with_len 0 n) (n ∷ []), map-append)
     (ap (λ ks. map f (filter p (range_with_len 0 n)) ++ ks) (elim (p n) as (λ b. map f (cond b (n ∷ []) []) ≡ cond b (f n ∷ []) []) [ true ↦ refl | false ↦ refl ]))
-
--- the least number so far, after one more number
-pub with_least-is : (o : Option ℕ) (x : ℕ) → Some (option_map_or (λ best. min best x) o x) ≡ with_least o x
-with_least-is None x = refl
-with_least-is (Some best) x = refl
 
 reduce-fold : (xs : List ℕ) → fold with_least None xs ≡ reduce min xs
 reduce-fold [] = refl

@@ -9,9 +9,8 @@ loop-packet-preserved c =
     let any_is : c.if-any.any ≡ (c.loop-packet.any || c.in_ok-heard.heard) =
     elim c.if-any.branch [ then-any w ↦ rw (w.any-is, w.if-any.true) refl | else-any w ↦ rw (w.any-is, w.if-any.false) refl ] in
     let a : Arrival = get_or c.args.packets.now c.loop-packet.packet-index (record { sender = 0; number = 0; value = 0 }) in
-    let below = c.loop-packet-test.true in
     let front : drop c.loop-packet.packet-index c.args.packets.now ≡ a ∷ drop (c.loop-packet.packet-index + 1) c.args.packets.now =
-    rw add-one (drop-cons c.args.packets.now c.loop-packet.packet-index (record { sender = 0; number = 0; value = 0 }) below) in
+    rw add-one (drop-cons c.args.packets.now c.loop-packet.packet-index (record { sender = 0; number = 0; value = 0 }) c.loop-packet-test.true) in
     λ t u is.
     rw any_is
     (heard_next c.args.moment c.args.packets.now _ _ a u _ _ _ _ c.loop-packet.any c.in_ok-heard.heard front (c.loop-packet.invariant t u is) (c.in_ok-heard.ensures.heard t) (c.in_ok-heard.ensures.room t))

@@ -5,8 +5,7 @@ use Rattle.program_tree.specs.Tree.{Statement, Body, Otherwise, size, statement_
 use Rattle.program_tree.specs.Meaning.{block_of, statement_of, otherwise_of, expression_of, action_of, body_of}
 use Rattle.program_tree.specs.Emits.{EmitsStatement, EmitsOther, EmitsFirst, entry_of, other_entry_of}
 use Rattle.program_tree.proofs.TreeLaws.{branch_of-If, while_of-While, does_of-Do, size_of-If, size_of-While}
-use Rattle.program_tree.proofs.Emitting.{on_ok, emits_nothing, emits_branch, emits_while, first_none, first_more, first_all, long_first, drop_here, drop_end, size_here, entry_some, entry_none}
-use Rattle.program_tree.proofs.Emitting.{emits_action, long_emitted, long_pushed}
+use Rattle.program_tree.proofs.Emitting.{on_ok, emits_nothing, emits_branch, emits_while, first_none, first_more, first_all, long_first, drop_here, drop_end, size_here, entry_some, entry_none, emits_action, long_emitted, long_pushed}
 use Rattle.program_tree.proofs.flattening.+flatten.Goals as goal
 use Rattle.program_tree.proofs.flattening.+flatten.Goals.{add_block-then-i-statements, add_block-else-i-statements}
 

@@ -13,43 +13,19 @@ use Rattle.process_kernel.proofs.machine.Machine.+kernel.Goals as goal
 
 pub act-returns-in-Poll : goal.act-returns-in-Poll
 unfolding act_of
-act-returns-in-Poll t c = record {
-  follows = record {
-    exact = λ k enough. search (rules, c.poll.ensures.exact (tree_of c.args.program.now));
-    continues = search rules;
-    grows = search rules;
-  };
-}
+act-returns-in-Poll t c = search (rules, c.poll.ensures.exact (tree_of c.args.program.now))
 
 pub act-returns-in-Stop : goal.act-returns-in-Stop
 unfolding act_of
-act-returns-in-Stop t c = record {
-  follows = record {
-    exact = λ k enough. search (rules, c.stop_timer.ensures.exact (tree_of c.args.program.now));
-    continues = search rules;
-    grows = search rules;
-  };
-}
+act-returns-in-Stop t c = search (rules, c.stop_timer.ensures.exact (tree_of c.args.program.now))
 
 pub act-returns-in-Take : goal.act-returns-in-Take
 unfolding act_of
-act-returns-in-Take t c = record {
-  follows = record {
-    exact = λ k enough. search (rules, c.take_semaphore.ensures.exact (tree_of c.args.program.now));
-    continues = search rules;
-    grows = search rules;
-  };
-}
+act-returns-in-Take t c = search (rules, c.take_semaphore.ensures.exact (tree_of c.args.program.now))
 
 pub act-returns-in-Signal : goal.act-returns-in-Signal
 unfolding act_of
-act-returns-in-Signal t c = record {
-  follows = record {
-    exact = λ k enough. search (rules, c.signal_semaphore.ensures.exact (tree_of c.args.program.now));
-    continues = search rules;
-    grows = search rules;
-  };
-}
+act-returns-in-Signal t c = search (rules, c.signal_semaphore.ensures.exact (tree_of c.args.program.now))
 
 pub call-returns-then-not-is_running : goal.call-returns-then-not-is_running
 unfolding call_process answered
@@ -112,134 +88,47 @@ call-returns-else-is_event t c = record {
 
 pub exit-returns-in_err-walk : goal.exit-returns-in_err-walk
 unfolding exit_process
-exit-returns-in_err-walk t c = record {
-  follows = record {
-    exact = λ k enough. search (rules, c.begin_exit.ensures.exact (tree_of c.args.program.now));
-    continues = search rules;
-    grows = search rules;
-  };
-}
+exit-returns-in_err-walk t c = search (rules, c.begin_exit.ensures.exact (tree_of c.args.program.now))
 
 pub exit-returns-in_err-run_last : goal.exit-returns-in_err-run_last
 unfolding exit_process
-exit-returns-in_err-run_last t c = record {
-  follows = record {
-    exact = λ k enough. search (rules, c.begin_exit.ensures.exact (tree_of c.args.program.now));
-    continues = search rules;
-    grows = search rules;
-  };
-}
+exit-returns-in_err-run_last t c = search (rules, c.begin_exit.ensures.exact (tree_of c.args.program.now))
 
 pub exit-returns : goal.exit-returns
 unfolding exit_process
-exit-returns t c = record {
-  follows = record {
-    exact = λ k enough. search (
-      rules,
-      c.begin_exit.ensures.exact (tree_of c.args.program.now),
-      c.leave.ensures.exact (tree_of c.args.program.now),
-    );
-    continues = search rules;
-    grows = search rules;
-  };
-}
+exit-returns t c = search (rules, c.begin_exit.ensures.exact (tree_of c.args.program.now), c.leave.ensures.exact (tree_of c.args.program.now))
 
 pub perform-returns-in_err-is_full-in-Post : goal.perform-returns-in_err-is_full-in-Post
 unfolding perform_of
-perform-returns-in_err-is_full-in-Post t c = record {
-  follows = record {
-    exact = λ k enough. search (rules, c.in_err-is_full-in-Post.ensures.exact (tree_of c.args.program.now));
-    continues = search rules;
-    grows = search rules;
-  };
-}
+perform-returns-in_err-is_full-in-Post t c = search (rules, c.in_err-is_full-in-Post.ensures.exact (tree_of c.args.program.now))
 
 pub perform-returns-in_ok-is_full-in-Post : goal.perform-returns-in_ok-is_full-in-Post
 unfolding perform_of
-perform-returns-in_ok-is_full-in-Post t c = record {
-  follows = record {
-    exact = λ k enough. search (
-      rules,
-      c.in_ok-is_full-in-Post.ensures.exact (tree_of c.args.program.now),
-      c.answer.ensures.exact (tree_of c.args.program.now) (code_of c.args.text.now),
-    );
-    continues = search rules;
-    grows = search rules;
-  };
-}
+perform-returns-in_ok-is_full-in-Post t c = search (rules, c.in_ok-is_full-in-Post.ensures.exact (tree_of c.args.program.now), c.answer.ensures.exact (tree_of c.args.program.now) (code_of c.args.text.now))
 
 pub react-returns-in_err-react_as_etimer-in-Etimer : goal.react-returns-in_err-react_as_etimer-in-Etimer
 unfolding react_of
-react-returns-in_err-react_as_etimer-in-Etimer t c = record {
-  follows = record {
-    exact = λ k enough. search (rules, c.in_err-react_as_etimer-in-Etimer.ensures.exact (tree_of c.args.program.now));
-    continues = search rules;
-    grows = search rules;
-  };
-}
+react-returns-in_err-react_as_etimer-in-Etimer t c = search (rules, c.in_err-react_as_etimer-in-Etimer.ensures.exact (tree_of c.args.program.now))
 
 pub react-returns-in_ok-react_as_etimer-in-Etimer : goal.react-returns-in_ok-react_as_etimer-in-Etimer
 unfolding react_of
-react-returns-in_ok-react_as_etimer-in-Etimer t c = record {
-  follows = record {
-    exact = λ k enough. search (rules, c.in_ok-react_as_etimer-in-Etimer.ensures.exact (tree_of c.args.program.now));
-    continues = search rules;
-    grows = search rules;
-  };
-}
+react-returns-in_ok-react_as_etimer-in-Etimer t c = search (rules, c.in_ok-react_as_etimer-in-Etimer.ensures.exact (tree_of c.args.program.now))
 
 pub react_as_ctimer-returns-then-not-takes_callback : goal.react_as_ctimer-returns-then-not-takes_callback
 unfolding ctimer_process
-react_as_ctimer-returns-then-not-takes_callback t c = record {
-  follows = record {
-    exact = let T = tree_of c.args.program.now in
-        λ k enough. search (rules, c.takes_callback.ensures.waited T, c.takes_callback.ensures.after T);
-    continues = search rules;
-    grows = search rules;
-  };
-}
+react_as_ctimer-returns-then-not-takes_callback t c = search (rules, c.takes_callback.ensures.waited (tree_of c.args.program.now), c.takes_callback.ensures.after (tree_of c.args.program.now))
 
 pub react_as_ctimer-returns : goal.react_as_ctimer-returns
 unfolding ctimer_process
-react_as_ctimer-returns t c = record {
-  follows = record {
-    exact = let T = tree_of c.args.program.now in
-        λ k enough. search (rules, c.takes_callback.ensures.waited T, c.takes_callback.ensures.after T);
-    continues = search rules;
-    grows = search rules;
-  };
-}
+react_as_ctimer-returns t c = search (rules, c.takes_callback.ensures.waited (tree_of c.args.program.now), c.takes_callback.ensures.after (tree_of c.args.program.now))
 
 pub resume-returns-in_err-answer : goal.resume-returns-in_err-answer
 unfolding resume_of
-resume-returns-in_err-answer t c = record {
-  follows = record {
-    exact = let T = tree_of c.args.program.now in
-        λ k enough. search (
-          rules,
-          c.in_ok-body.ensures.exact T (code_of c.args.text.now) c.requires.text,
-          c.take_thread.ensures.after T,
-        );
-    continues = search rules;
-    grows = search rules;
-  };
-}
+resume-returns-in_err-answer t c = search (rules, c.in_ok-body.ensures.exact (tree_of c.args.program.now) (code_of c.args.text.now) c.requires.text, c.take_thread.ensures.after (tree_of c.args.program.now))
 
 pub resume-returns : goal.resume-returns
 unfolding resume_of
-resume-returns t c = record {
-  follows = record {
-    exact = let T = tree_of c.args.program.now in
-        λ k enough. search (
-          rules,
-          c.in_ok-body.ensures.exact T (code_of c.args.text.now) c.requires.text,
-          c.take_thread.ensures.after T,
-          c.put_thread.ensures.exact T (code_of c.args.text.now) c.requires.text,
-        );
-    continues = search rules;
-    grows = search rules;
-  };
-}
+resume-returns t c = search (rules, c.in_ok-body.ensures.exact (tree_of c.args.program.now) (code_of c.args.text.now) c.requires.text, c.take_thread.ensures.after (tree_of c.args.program.now), c.put_thread.ensures.exact (tree_of c.args.program.now) (code_of c.args.text.now) c.requires.text)
 
 pub run-loop-op-preserved : goal.run-loop-op-preserved
 unfolding run_of
@@ -305,53 +194,23 @@ run-returns-in-Runaway t c = record {
 
 pub run_last-returns-in_err-spend : goal.run_last-returns-in_err-spend
 unfolding last_run_of
-run_last-returns-in_err-spend t c = record {
-  follows = record {
-    exact = λ k enough. search (rules, c.in_err-spend.ensures.exact (tree_of c.args.program.now));
-    continues = search rules;
-    grows = search rules;
-  };
-}
+run_last-returns-in_err-spend t c = search (rules, c.in_err-spend.ensures.exact (tree_of c.args.program.now))
 
 pub run_last-returns-in_err-react : goal.run_last-returns-in_err-react
 unfolding last_run_of
-run_last-returns-in_err-react t c = record {
-  follows = record {
-    exact = λ k enough. search (rules, c.in_ok-spend.ensures.exact (tree_of c.args.program.now));
-    continues = search rules;
-    grows = search rules;
-  };
-}
+run_last-returns-in_err-react t c = search (rules, c.in_ok-spend.ensures.exact (tree_of c.args.program.now))
 
 pub run_last-returns : goal.run_last-returns
 unfolding last_run_of
-run_last-returns t c = record {
-  follows = record {
-    exact = λ k enough. search (rules, c.in_ok-spend.ensures.exact (tree_of c.args.program.now));
-    continues = search rules;
-    grows = search rules;
-  };
-}
+run_last-returns t c = search (rules, c.in_ok-spend.ensures.exact (tree_of c.args.program.now))
 
 pub start-returns-in_err-enlist : goal.start-returns-in_err-enlist
 unfolding process_start
-start-returns-in_err-enlist t c = record {
-  follows = record {
-    exact = λ k enough. search (rules, c.in_err-enlist.ensures.exact (tree_of c.args.program.now));
-    continues = search rules;
-    grows = search rules;
-  };
-}
+start-returns-in_err-enlist t c = search (rules, c.in_err-enlist.ensures.exact (tree_of c.args.program.now))
 
 pub start-returns-in_ok-enlist : goal.start-returns-in_ok-enlist
 unfolding process_start
-start-returns-in_ok-enlist t c = record {
-  follows = record {
-    exact = λ k enough. search (rules, c.in_ok-enlist.ensures.exact (tree_of c.args.program.now));
-    continues = search rules;
-    grows = search rules;
-  };
-}
+start-returns-in_ok-enlist t c = search (rules, c.in_ok-enlist.ensures.exact (tree_of c.args.program.now))
 
 pub run_part-returns-then-is_empty : goal.run_part-returns-then-is_empty
 run_part-returns-then-is_empty t c = record {

@@ -9,13 +9,12 @@ returns-in_err-start_each c = record {
     exact = λ k enough.
         let first = c.in_ok-start.ensures.follows.continues in
         let second = c.in_ok-start-2.ensures.follows.continues in
-        let third = c.in_ok-start-3.ensures.follows.continues in
         search (
           rules,
           c.in_ok-start.ensures.follows.exact k enough,
           c.in_ok-start-2.ensures.follows.exact k (omega (arith, first)),
           c.in_ok-start-3.ensures.follows.exact k (omega (arith, first, second)),
-          rw c.autostart.ensures.value at (c.in_err-start_each.ensures.follows.exact k (omega (arith, first, second, third))),
+          rw c.autostart.ensures.value at (c.in_err-start_each.ensures.follows.exact k (omega (arith, first, second, c.in_ok-start-3.ensures.follows.continues))),
         );
     continues = search rules;
     grows = search rules;
@@ -29,13 +28,12 @@ returns c = record {
     exact = λ k enough.
         let first = c.in_ok-start.ensures.follows.continues in
         let second = c.in_ok-start-2.ensures.follows.continues in
-        let third = c.in_ok-start-3.ensures.follows.continues in
         search (
           rules,
           c.in_ok-start.ensures.follows.exact k enough,
           c.in_ok-start-2.ensures.follows.exact k (omega (arith, first)),
           c.in_ok-start-3.ensures.follows.exact k (omega (arith, first, second)),
-          rw c.autostart.ensures.value at (c.in_ok-start_each.ensures.follows.exact k (omega (arith, first, second, third))),
+          rw c.autostart.ensures.value at (c.in_ok-start_each.ensures.follows.exact k (omega (arith, first, second, c.in_ok-start-3.ensures.follows.continues))),
         );
     continues = search rules;
     grows = search rules;

@@ -23,7 +23,6 @@ returns-in_err-give_in_turn c = record {
 pub loop-place-preserved : goal.loop-place-preserved
 loop-place-preserved c =
     let T = tree_of c.args.program.now in
-    let ms = c.args.self.now.members.items in
     let inv = c.loop-place.invariant in
     let turn = c.in_ok-give_in_turn.ensures.follows in
     let rest = rest_begins c.args.self.now c.loop-place.self c.loop-place.place c.first_member-member.result
@@ -32,6 +31,6 @@ loop-place-preserved c =
       search rules,
       λ k enough.
           inv.2 k enough ∙ ap (λ xs. walk_broadcast (calls_of k) c.args.posted.now xs (kernel_state_of T c.loop-place.self)) rest
-          ∙ ap (λ o. o >>= λ _ s1. walk_broadcast (calls_of k) c.args.posted.now (drop (c.loop-place.place + 1) ms) s1)
+          ∙ ap (λ o. o >>= λ _ s1. walk_broadcast (calls_of k) c.args.posted.now (drop (c.loop-place.place + 1) c.args.self.now.members.items) s1)
           (turn.exact k (omega (arith, enough, inv.0.0))),
     )

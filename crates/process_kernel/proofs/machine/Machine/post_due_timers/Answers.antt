@@ -3,8 +3,7 @@ use Rattle.mote_timers.specs.TimerLists.{TimerLists}
 use Rattle.mote_timers.specs.DueTimers.{first_due, members_after}
 use Rattle.process_kernel.specs.Etimer.{pass_of, fired_of, walks_of}
 use Rattle.process_kernel.specs.Views.{kernel_state_of}
-use Rattle.process_kernel.proofs.Walks.{Found, begin, full_step, fired_step, halt_step, walk_none, fired_fewer}
-use Rattle.process_kernel.proofs.Walks.{square_less}
+use Rattle.process_kernel.proofs.Walks.{Found, begin, full_step, fired_step, halt_step, walk_none, fired_fewer, square_less}
 use Rattle.process_kernel.proofs.machine.Machine.post_due_timers.Goals as goal
 
 pub loop-timer-init : goal.loop-timer-init

@@ -46,8 +46,7 @@ loop-self-preserved-in-Some-pop g c =
 
 pub reach-requires-clause-leads : goal.reach-requires-clause-leads
 reach-requires-clause-leads g c =
-    let t = c.loop-self.self in
-    c.loop-self.invariant.inside.flat_of.each t.position c.in-Some-get.instruction.now
+    c.loop-self.invariant.inside.flat_of.each c.loop-self.self.position c.in-Some-get.instruction.now
     (found c.loop-self.flat.now _ _ c.in-Some-get.instruction.now c.from.ensures c.in-Some-get.ensures.lookup.3.0 c.in-Some-get.ensures.lookup.1)
 
 pub returns-then-not-spend-clause-exact : goal.returns-then-not-spend-clause-exact

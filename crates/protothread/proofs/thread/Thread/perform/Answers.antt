@@ -19,7 +19,6 @@ returns-in-Passes-clause-reaches c =
     let code = code_of c.args.text.now in
     let old = c.args.self.now in
     let vars = c.args.vars.now in
-    let b = body_of_thread code old in
     let cs = callers_of code old in
     λ s rest here after.
     record {
@@ -37,7 +36,6 @@ returns-in-Assigns-clause-reaches c =
     let code = code_of c.args.text.now in
     let old = c.args.self.now in
     let vars = c.args.vars.now in
-    let b = body_of_thread code old in
     let cs = callers_of code old in
     λ s rest here after.
     let new = c.go_on-in-Assigns.new.self in
@@ -92,7 +90,6 @@ returns-in-Waits-clause-reaches c =
     let code = code_of c.args.text.now in
     let old = c.args.self.now in
     let vars = c.args.vars.now in
-    let b = body_of_thread code old in
     let cs = callers_of code old in
     λ s rest here after.
     record {
@@ -110,10 +107,8 @@ returns-in-Yields-clause-reaches c =
     let code = code_of c.args.text.now in
     let old = c.args.self.now in
     let vars = c.args.vars.now in
-    let b = body_of_thread code old in
     let cs = callers_of code old in
     λ s rest here after.
-    let new = c.give_up-in-Yields.new.self in
     record {
       part = ap (λ t. t.part) c.give_up-in-Yields.ensures.after;
       last_action = ap (λ t. t.last_action) c.give_up-in-Yields.ensures.after;
@@ -123,7 +118,7 @@ returns-in-Yields-clause-reaches c =
           ∙ made_of-yields cs vars (at true s rest)
           ∙ ap (λ n. answers (yielding n) (nested cs (at true s rest))) (length-callers_in code (part_body code old.part) old.calls ∙ sym (ap (λ t. length t.calls) c.give_up-in-Yields.ensures.after))
           ∙ ap (λ a. answers a (nested cs (at true s rest))) (sym c.yield_answer.ensures.value)
-          ∙ ap (λ p. answers c.yield_answer.result p) (sym (stays_so code old s rest here AtRest true new c.give_up-in-Yields.ensures.after));
+          ∙ ap (λ p. answers c.yield_answer.result p) (sym (stays_so code old s rest here AtRest true c.give_up-in-Yields.new.self c.give_up-in-Yields.ensures.after));
     }
 
 pub returns-in-Spawns-clause-reaches : goal.returns-in-Spawns-clause-reaches
@@ -131,7 +126,6 @@ returns-in-Spawns-clause-reaches c =
     let code = code_of c.args.text.now in
     let old = c.args.self.now in
     let vars = c.args.vars.now in
-    let b = body_of_thread code old in
     let cs = callers_of code old in
     λ s rest here after.
     let new = c.go_on-in-Spawns.new.self in
@@ -154,7 +148,6 @@ returns-in-Restarts-clause-reaches c =
     let b = body_of_thread code old in
     let cs = callers_of code old in
     λ s rest here after.
-    let new = c.go_on-in-Restarts.new.self in
     record {
       part = ap (λ t. t.part) c.go_on-in-Restarts.ensures.after;
       last_action = ap (λ t. t.last_action) c.go_on-in-Restarts.ensures.after;
@@ -162,7 +155,7 @@ returns-in-Restarts-clause-reaches c =
       made_so =
           ap (λ d. performed_at code old vars s rest d) c.in-Restarts.is
           ∙ made_of-waits cs vars (before false (listed b))
-          ∙ ap (λ p. answers Waiting p) (sym (restarts_so code old s rest here AtRest new c.go_on-in-Restarts.ensures.after));
+          ∙ ap (λ p. answers Waiting p) (sym (restarts_so code old s rest here AtRest c.go_on-in-Restarts.new.self c.go_on-in-Restarts.ensures.after));
     }
 
 pub returns-in-Some-clause-reaches : goal.returns-in-Some-clause-reaches
@@ -171,15 +164,13 @@ returns-in-Some-clause-reaches c =
     let old = c.args.self.now in
     let vars = c.args.vars.now in
     let b = body_of_thread code old in
-    let cs = callers_of code old in
     λ s rest here after.
-    let new = c.go_on-in-Some.new.self in
     record {
       part = ap (λ t. t.part) c.go_on-in-Some.ensures.after;
       inside = c.innermost.ensures.is_found_in;
       made_so =
           ap (λ d. performed_at code old vars s rest d) c.in-Exits.is
-          ∙ exits_so code old s rest here c.pop.new.self c.in-Some.call new vars (before false (listed b)) c.in-Some.ensures.items c.go_on-in-Some.ensures.after;
+          ∙ exits_so code old s rest here c.pop.new.self c.in-Some.call c.go_on-in-Some.new.self vars (before false (listed b)) c.in-Some.ensures.items c.go_on-in-Some.ensures.after;
     }
 
 pub returns-in-None-clause-reaches : goal.returns-in-None-clause-reaches
@@ -190,7 +181,6 @@ returns-in-None-clause-reaches c =
     let b = body_of_thread code old in
     let cs = callers_of code old in
     λ s rest here after.
-    let new = c.go_on-in-None.new.self in
     let none : old.calls ≡ [] = grind (arith, common_steps) in
     let moved = c.go_on-in-None.ensures.after ∙ ap (λ ds. record old { last_action = AtRest; is_yielded = false; position = 0; calls = ds }) c.in-None.ensures.empty in
     record {
@@ -199,5 +189,5 @@ returns-in-None-clause-reaches c =
       variables = refl;
       made_so =
           ap (λ d. performed_at code old vars s rest d) c.in-Exits.is
-          ∙ exits_last code old s rest here new vars none moved;
+          ∙ exits_last code old s rest here c.go_on-in-None.new.self vars none moved;
     }

@@ -60,76 +60,66 @@ pub returns-in-Assign-clause-reaches : goal.returns-in-Assign-clause-reaches
 returns-in-Assign-clause-reaches g c =
     let code = code_of c.args.text.now in
     let old = c.args.self.now in
-    let vars = c.args.vars.now in
-    let event = c.args.event.now in
     let looks = g.L.Look.looks c.args.look.now in
     let b = body_of_thread code old in
     let P : Instruction → Type 0 = λ i. Leads (rest_at b) i (rest_at b old.position) in
     λ s rest here.
-    goes_by_assignment code old s rest here c.args.flat.now vars c.set.new.self event looks c.in-Assign.variable c.formula_value-value.result (formula_of c.in-Assign.value) c.in-Assign.next c.go_on.new.self c.requires.inside
+    goes_by_assignment code old s rest here c.args.flat.now c.args.vars.now c.set.new.self c.args.event.now looks c.in-Assign.variable c.formula_value-value.result (formula_of c.in-Assign.value) c.in-Assign.next c.go_on.new.self c.requires.inside
     (subst P c.in-Assign.is c.requires.leads) c.formula_value-value.ensures.value c.set.ensures.after c.go_on.ensures.after
 
 pub returns-in-AssignTerm-clause-reaches : goal.returns-in-AssignTerm-clause-reaches
 returns-in-AssignTerm-clause-reaches g c =
     let code = code_of c.args.text.now in
     let old = c.args.self.now in
-    let vars = c.args.vars.now in
-    let event = c.args.event.now in
     let looks = g.L.Look.looks c.args.look.now in
     let b = body_of_thread code old in
     let P : Instruction → Type 0 = λ i. Leads (rest_at b) i (rest_at b old.position) in
     λ s rest here.
-    goes_by_assignment code old s rest here c.args.flat.now vars c.set-in-AssignTerm.new.self event looks c.in-AssignTerm.variable c.term_value-value.result (term_of c.in-AssignTerm.term) c.in-AssignTerm.next c.go_on-in-AssignTerm.new.self c.requires.inside
+    goes_by_assignment code old s rest here c.args.flat.now c.args.vars.now c.set-in-AssignTerm.new.self c.args.event.now looks c.in-AssignTerm.variable c.term_value-value.result (term_of c.in-AssignTerm.term) c.in-AssignTerm.next c.go_on-in-AssignTerm.new.self c.requires.inside
     (subst P c.in-AssignTerm.is c.requires.leads) (c.term_value-value.ensures.value looks) c.set-in-AssignTerm.ensures.after c.go_on-in-AssignTerm.ensures.after
 
 pub returns-in-AssignNumber-clause-reaches : goal.returns-in-AssignNumber-clause-reaches
 returns-in-AssignNumber-clause-reaches g c =
     let code = code_of c.args.text.now in
     let old = c.args.self.now in
-    let vars = c.args.vars.now in
     let event = c.args.event.now in
     let looks = g.L.Look.looks c.args.look.now in
     let b = body_of_thread code old in
     let P : Instruction → Type 0 = λ i. Leads (rest_at b) i (rest_at b old.position) in
     λ s rest here.
-    goes_by_assignment code old s rest here c.args.flat.now vars c.set-in-AssignNumber.new.self event looks c.in-AssignNumber.variable c.value_with_number-value.result (binary c.in-AssignNumber.operator (variable c.in-AssignNumber.left) (number c.in-AssignNumber.number)) c.in-AssignNumber.next c.go_on-in-AssignNumber.new.self c.requires.inside
+    goes_by_assignment code old s rest here c.args.flat.now c.args.vars.now c.set-in-AssignNumber.new.self event looks c.in-AssignNumber.variable c.value_with_number-value.result (binary c.in-AssignNumber.operator (variable c.in-AssignNumber.left) (number c.in-AssignNumber.number)) c.in-AssignNumber.next c.go_on-in-AssignNumber.new.self c.requires.inside
     (subst P c.in-AssignNumber.is c.requires.leads) (c.value_with_number-value.ensures.value event looks) c.set-in-AssignNumber.ensures.after c.go_on-in-AssignNumber.ensures.after
 
 pub returns-in-Test-clause-reaches : goal.returns-in-Test-clause-reaches
 returns-in-Test-clause-reaches g c =
     let code = code_of c.args.text.now in
     let old = c.args.self.now in
-    let vars = c.args.vars.now in
-    let event = c.args.event.now in
     let looks = g.L.Look.looks c.args.look.now in
     let b = body_of_thread code old in
     let P : Instruction → Type 0 = λ i. Leads (rest_at b) i (rest_at b old.position) in
     λ s rest here.
-    goes_by_test code old s rest here c.args.flat.now vars event looks (formula_of c.in-Test.test) c.in-Test.holds c.in-Test.fails c.chosen.result c.go_on-in-Test.new.self c.requires.inside
+    goes_by_test code old s rest here c.args.flat.now c.args.vars.now c.args.event.now looks (formula_of c.in-Test.test) c.in-Test.holds c.in-Test.fails c.chosen.result c.go_on-in-Test.new.self c.requires.inside
     (subst P c.in-Test.is c.requires.leads) (c.chosen.ensures.value ∙ ap (λ v. place_by v c.in-Test.holds c.in-Test.fails) c.formula_value-value-in-Test.ensures.value) c.go_on-in-Test.ensures.after
 
 pub returns-in-TestTerm-clause-reaches : goal.returns-in-TestTerm-clause-reaches
 returns-in-TestTerm-clause-reaches g c =
     let code = code_of c.args.text.now in
     let old = c.args.self.now in
-    let vars = c.args.vars.now in
-    let event = c.args.event.now in
     let looks = g.L.Look.looks c.args.look.now in
     let b = body_of_thread code old in
     let P : Instruction → Type 0 = λ i. Leads (rest_at b) i (rest_at b old.position) in
     λ s rest here.
-    goes_by_test code old s rest here c.args.flat.now vars event looks (term_of c.in-TestTerm.test) c.in-TestTerm.holds c.in-TestTerm.fails c.chosen-in-TestTerm.result c.go_on-in-TestTerm.new.self c.requires.inside
+    goes_by_test code old s rest here c.args.flat.now c.args.vars.now c.args.event.now looks (term_of c.in-TestTerm.test) c.in-TestTerm.holds c.in-TestTerm.fails c.chosen-in-TestTerm.result c.go_on-in-TestTerm.new.self c.requires.inside
     (subst P c.in-TestTerm.is c.requires.leads) (c.chosen-in-TestTerm.ensures.value ∙ ap (λ v. place_by v c.in-TestTerm.holds c.in-TestTerm.fails) (c.term_value-value-in-TestTerm.ensures.value looks)) c.go_on-in-TestTerm.ensures.after
 
 pub returns-in-TestNumber-clause-reaches : goal.returns-in-TestNumber-clause-reaches
 returns-in-TestNumber-clause-reaches g c =
     let code = code_of c.args.text.now in
     let old = c.args.self.now in
-    let vars = c.args.vars.now in
     let event = c.args.event.now in
     let looks = g.L.Look.looks c.args.look.now in
     let b = body_of_thread code old in
     let P : Instruction → Type 0 = λ i. Leads (rest_at b) i (rest_at b old.position) in
     λ s rest here.
-    goes_by_test code old s rest here c.args.flat.now vars event looks (binary c.in-TestNumber.operator (variable c.in-TestNumber.left) (number c.in-TestNumber.number)) c.in-TestNumber.holds c.in-TestNumber.fails c.chosen-in-TestNumber.result c.go_on-in-TestNumber.new.self c.requires.inside
+    goes_by_test code old s rest here c.args.flat.now c.args.vars.now event looks (binary c.in-TestNumber.operator (variable c.in-TestNumber.left) (number c.in-TestNumber.number)) c.in-TestNumber.holds c.in-TestNumber.fails c.chosen-in-TestNumber.result c.go_on-in-TestNumber.new.self c.requires.inside
     (subst P c.in-TestNumber.is c.requires.leads) (c.chosen-in-TestNumber.ensures.value ∙ ap (λ v. place_by v c.in-TestNumber.holds c.in-TestNumber.fails) (c.value_with_number-value-in-TestNumber.ensures.value event looks)) c.go_on-in-TestNumber.ensures.after
