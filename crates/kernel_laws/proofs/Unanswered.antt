@@ -11,6 +11,7 @@ use Rattle.protothread.specs.declared.step.Op.{Op}
 use Rattle.protothread.specs.declared.step.Op.TheVariants.{Post}
 use Rattle.protothread.specs.declared.step.Step.{Step}
 use Rattle.protothread.specs.declared.step.Step.TheVariants as step
+use Rattle.protothread.specs.declared.answer.PtState.TheVariants.{Waiting, Yielded, Exited, Ended}
 use Rattle.protothread.specs.Looks.{Looks}
 use Rattle.protothread.specs.Value.{value, holds}
 use Rattle.protothread.specs.Remainder.{Place, ended, at, within, settled, Remainder, thread_block, whole_of}
@@ -55,8 +56,12 @@ module _ (code : Code) (whole : List (Statement ℕ)) (y : Bool) (vars : List �
   unanswered_does x = refl
 
 unanswered_spawner : (t : ℕ) (rest : List (Statement ℕ)) (vars : List ℕ) (r : Reached) → ReachedUnanswered r → ReachedUnanswered (spawner_reached t rest vars r)
+unanswered_spawner t rest vars (goes_on changed p) h = tt
 unanswered_spawner t rest vars (operates o last_action p) h = h
-unanswered_spawner t rest vars x h = tt
+unanswered_spawner t rest vars (answers Waiting p) h = tt
+unanswered_spawner t rest vars (answers Yielded p) h = tt
+unanswered_spawner t rest vars (answers Exited p) h = tt
+unanswered_spawner t rest vars (answers Ended p) h = tt
 
 unanswered_reached : (code : Code) (whole : List (Statement ℕ)) (vars : List ℕ) (event : Event) (looks : Looks) (p : Place) → ReachedUnanswered (reached code whole vars event looks p)
 unanswered_reached code whole vars event looks (at y (does a) rest) =

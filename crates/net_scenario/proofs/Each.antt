@@ -1,12 +1,14 @@
 -- The tables among some items, one item at a time.
-use Rattle.std.proofs.Common.{◌≡◌, ◌+◌, ◌<◌, ℕ, List, [], ◌∷◌, ◌++◌, map, codes, ap, sym, Option, length, get_or, drop, Some, None, refl, ◌≤◌, ◌∙◌, append_assoc}
+use Rattle.std.proofs.Common.{◌≡◌, ◌+◌, ◌<◌, ℕ, List, [], ◌∷◌, ◌++◌, map, codes, ap, sym, Option, length, get_or, drop}
+use Rattle.std.proofs.Common.{Some, None, refl, ◌≤◌, ◌∙◌, append_assoc}
 use Rattle.std.proofs.lemmas.List.{append-nil, drop_all}
 use Rattle.std.specs.Option.{option_or, option_map_or, option_to_list}
 use Rattle.toml.specs.Data.{Members, as_table}
 use Rattle.toml.specs.View.{view, items_view}
 use Rattle.toml.specs.declared.value.Value.{Value}
 use Rattle.toml.proofs.Views.{items_view-drop}
-use Rattle.net_scenario.specs.Document.{first_some, tables_in, table_at, items_at, version_of, queue_fault, program_fault, document_fault}
+use Rattle.net_scenario.specs.Document.{first_some, tables_in, table_at, items_at, version_of, queue_fault}
+use Rattle.net_scenario.specs.Document.{program_fault, document_fault}
 use Rattle.net_scenario.specs.Names.{names_fault, lengths_fault}
 use Rattle.net_scenario.specs.Rules.{keys_fault, known_in, top_rules, medium_rules, loss_rules, mote_rules}
 

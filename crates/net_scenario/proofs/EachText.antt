@@ -1,5 +1,6 @@
 -- Each text describes a net or has a fault.
-use Rattle.std.proofs.Common.{◌≡◌, ◌⊎◌, ℕ, Bool, true, false, if◌then◌else◌, List, [], ◌∷◌, length, nat_lt, codes, refl, ap, inl, inr, Option, Some, None, Ok, Err}
+use Rattle.std.proofs.Common.{◌≡◌, ◌⊎◌, ℕ, Bool, true, false, if◌then◌else◌, List, [], ◌∷◌, length, nat_lt, codes}
+use Rattle.std.proofs.Common.{refl, ap, inl, inr, Option, Some, None, Ok, Err}
 use Rattle.std.specs.Option.{option_map_or}
 use Rattle.toml.specs.Data.{Members}
 use Rattle.toml.specs.Parse.{parse_document}
@@ -85,7 +86,10 @@ by_programs text d (inr (name, e, refused)) = inr (Program name e, (d, refused))
 
 table_reported : (text : List ℕ) (f : TableFault) → document_of text ≡ Err (of_table f) → TellsFault text (of_table f)
 table_reported text table.MissingKey e = e
-table_reported text x e = e
+table_reported text table.UnknownKey e = e
+table_reported text table.WrongKind e = e
+table_reported text table.OutOfRange e = e
+table_reported text table.UnknownProgram e = e
 
 module _ (each : (text : List ℕ) → HasTreeOrFault text) where
   by_tables : (text : List ℕ) (top : Members) (fault : Option TableFault)

@@ -1,14 +1,17 @@
 -- The contents of a table that has no error.
-use Rattle.std.proofs.Common.{◌≡◌, ◌<◌, ◌≤◌, ◌≤ℤ◌, ℕ, zero, suc, ℤ, pos, negsuc, neg_ℤ, unsigned_abs, Bool, true, false, not, ◌&&◌, ◌||◌, cond, List, [], ◌∷◌, length, get_or, Option, Some, None, is_none, refl, arith}
+use Rattle.std.proofs.Common.{◌≡◌, ◌<◌, ◌≤◌, ◌≤ℤ◌, ℕ, zero, suc, ℤ, pos, negsuc, neg_ℤ, unsigned_abs, Bool, true}
+use Rattle.std.proofs.Common.{false, not, ◌&&◌, ◌||◌, cond, List, [], ◌∷◌, length, get_or, Option, Some, None, is_none}
+use Rattle.std.proofs.Common.{refl, arith}
 use Rattle.std.proofs.lemmas.Int.{ints}
 use Rattle.std.specs.List.{list_any}
 use Rattle.std.specs.Option.{option_map_or}
 use Rattle.std.specs.Int.Signed.{le_z}
-use Rattle.toml.specs.Data.{Data, integer, table, Members, get_member}
+use Rattle.toml.specs.Data.{Data, string, integer, float, boolean, datetime, array, table, Members, get_member}
 use Rattle.net_scenario.specs.declared.version.Version.{Version}
 use Rattle.net_scenario.specs.declared.version.Version.TheVariants.{First}
 use Rattle.net_scenario.specs.declared.rules.KeyKind.TheVariants.{Number, Table}
-use Rattle.net_scenario.specs.Rules.{Rule, needed, has_come, known_in, keys_fault, has_kind, is_in_range, misses, holds_other_kind, holds_out_of_range}
+use Rattle.net_scenario.specs.Rules.{Rule, needed, has_come, known_in, keys_fault, has_kind, is_in_range, misses}
+use Rattle.net_scenario.specs.Rules.{holds_other_kind, holds_out_of_range}
 use Rattle.net_scenario.specs.Document.{HoldsNumber, HoldsTable, integer_at, number_at}
 
 -- a table without a fault at one rule
@@ -76,10 +79,16 @@ held_number : (low high : ℤ) (name : List ℕ) (ms : Members) (o : Option Data
     → is_none o ≡ false
     → option_map_or (λ d. not (has_kind (Number low high) d)) o false ≡ false
     → option_map_or (λ d. not (is_in_range (Number low high) d)) o false ≡ false → HoldsNumber low high name ms
+held_number low high name ms None e a b c = cc
 held_number low high name ms (Some (integer z)) e a b c =
     let within = both (le_z low z) (le_z z high) c in
     record { value = z; held = e; above = le_of low z within.0; below = le_of z high within.1 }
-held_number low high name ms x e a b c = cc
+held_number low high name ms (Some (string s)) e a b c = cc
+held_number low high name ms (Some (float x)) e a b c = cc
+held_number low high name ms (Some (boolean x)) e a b c = cc
+held_number low high name ms (Some (datetime x)) e a b c = cc
+held_number low high name ms (Some (array x)) e a b c = cc
+held_number low high name ms (Some (table x)) e a b c = cc
 
 pub number_kept : {since : Version} (low high : ℤ) (name : List ℕ) (ms : Members)
     → Keeps ms (needed since name (Number low high)) → HoldsNumber low high name ms
@@ -90,7 +99,9 @@ pub natural_kept : {since : Version} (high : ℕ) (name : List ℕ) (ms : Member
     → Keeps ms (needed since name (Number (pos 0) (pos high))) → HoldsNumber (pos 0) (pos 4294967295) name ms
 natural_kept high name ms fits k =
     let n = number_kept (pos 0) (pos high) name ms k in
-    record { value = n.value; held = n.held; n.above = n.above; n.below = omega (arith, ints) }
+    let above = n.above in
+    let below = n.below in
+    record { value = n.value; held = n.held; above = n.above; below = omega (arith, ints) }
 
 -- a signed number with at most 32 bits
 pub signed_kept : {since : Version} (low high : ℤ) (name : List ℕ) (ms : Members) → negsuc 2147483647 ≤ℤ low
@@ -98,12 +109,20 @@ pub signed_kept : {since : Version} (low high : ℤ) (name : List ℕ) (ms : Mem
     → HoldsNumber (negsuc 2147483647) (pos 2147483647) name ms
 signed_kept low high name ms fits-low fits-high k =
     let n = number_kept low high name ms k in
-    record { value = n.value; held = n.held; n.above = omega (arith, ints); n.below = omega (arith, ints) }
+    let above = n.above in
+    let below = n.below in
+    record { value = n.value; held = n.held; above = omega (arith, ints); below = omega (arith, ints) }
 
 held_table : (name : List ℕ) (ms : Members) (o : Option Data) → get_member name ms ≡ o → is_none o ≡ false
     → option_map_or (λ d. not (has_kind Table d)) o false ≡ false → HoldsTable name ms
+held_table name ms None e a b = cc
+held_table name ms (Some (integer z)) e a b = cc
+held_table name ms (Some (string s)) e a b = cc
+held_table name ms (Some (float x)) e a b = cc
+held_table name ms (Some (boolean x)) e a b = cc
+held_table name ms (Some (datetime x)) e a b = cc
+held_table name ms (Some (array x)) e a b = cc
 held_table name ms (Some (table x)) e a b = record { inner = x; held = e }
-held_table name ms x e a b = cc
 
 within_abs : (far : ℕ) (z : ℤ) → neg_ℤ (pos far) ≤ℤ z → z ≤ℤ pos far → unsigned_abs z ≤ far
 within_abs far z a b = omega (arith, ints)
@@ -121,7 +140,9 @@ natural_within high name ms n h e =
 pub signed_within : (far : ℕ) (name : List ℕ) (ms : Members) → HoldsNumber (neg_ℤ (pos far)) (pos far) name ms
     → unsigned_abs (number_at name ms) ≤ far
 signed_within far name ms h =
-    rw h.held (within_abs far h.value h.above h.below)
+    let above = h.above in
+    let below = h.below in
+    rw h.held (within_abs far h.value above below)
 
 pub table_kept : {since : Version} (name : List ℕ) (ms : Members) → Keeps ms (needed since name Table)
     → HoldsTable name ms

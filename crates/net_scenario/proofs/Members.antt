@@ -1,5 +1,7 @@
 -- The table of programs, the programs that were read, and the number of motes.
-use Rattle.std.proofs.Common.{◌≡◌, ◌≤◌, ◌≤ℤ◌, ℕ, ℤ, pos, Bool, true, false, not, ◌&&◌, cond, List, [], ◌∷◌, length, refl, sym, ap, ◌∙◌, arith, Option, Some, None, is_none, unwrap_or, find, nat_le, Ordering, Less, Equal, Greater, nat_cmp, is_eq}
+use Rattle.std.proofs.Common.{◌≡◌, ◌≤◌, ◌≤ℤ◌, ℕ, ℤ, pos, Bool, true, false, not, ◌&&◌, cond, List, [], ◌∷◌, length}
+use Rattle.std.proofs.Common.{refl, sym, ap, ◌∙◌, arith, Option, Some, None, is_none, unwrap_or, find, nat_le}
+use Rattle.std.proofs.Common.{Ordering, Less, Equal, Greater, nat_cmp, is_eq}
 use Rattle.std.proofs.lemmas.Int.{ints}
 use Rattle.std.specs.Option.{option_or, option_map_or}
 use Rattle.std.specs.Prelude.{option_and_then}
@@ -9,7 +11,8 @@ use Rattle.std.specs.Str.{bytes_eq}
 use Rattle.std.proofs.lemmas.Bool.{and_parts}
 use Rattle.std.proofs.lemmas.Map.Text.{is_eq-slice_cmp}
 use Rattle.std.proofs.lemmas.Slice.Eq.{bytes_eq-Decides}
-use Rattle.toml.specs.Data.{Data, integer, array, table, Items, no_items, item, Members, no_members, member, get_member, as_array}
+use Rattle.toml.specs.Data.{Data, string, integer, float, boolean, datetime, array, table, Items, no_items, item}
+use Rattle.toml.specs.Data.{Members, no_members, member, get_member, as_array}
 use Rattle.net_scenario.specs.declared.version.Version.{Version}
 use Rattle.mote_net.specs.Limits.{shortest_queue, longest_queue}
 use Rattle.net_scenario.specs.Names.{values_any, queue_length, lengths_fault}
@@ -74,8 +77,13 @@ all_read ms ts (mote ∷ motes) r h =
 
 tables_len : (ds : Items) → length (tables_in ds) ≤ items_len ds
 tables_len no_items = omega arith
+tables_len (item (string s) ds) = let h = tables_len ds in omega arith
+tables_len (item (integer z) ds) = let h = tables_len ds in omega arith
+tables_len (item (float x) ds) = let h = tables_len ds in omega arith
+tables_len (item (boolean b) ds) = let h = tables_len ds in omega arith
+tables_len (item (datetime t) ds) = let h = tables_len ds in omega arith
+tables_len (item (array es) ds) = let h = tables_len ds in omega arith
 tables_len (item (table ms) ds) = let h = tables_len ds in omega arith
-tables_len (item x ds) = let h = tables_len ds in omega arith
 
 not_false : (b : Bool) → not b ≡ false → b ≡ true
 not_false true h = refl
@@ -103,19 +111,30 @@ tables_kept low high name ms k = held low high (get_member name ms) k.range
 
 all_tables_len : (ds : Items) → are_tables ds ≡ true → length (tables_in ds) ≡ items_len ds
 all_tables_len no_items h = refl
+all_tables_len (item (string s) ds) h = cc
+all_tables_len (item (integer z) ds) h = cc
+all_tables_len (item (float x) ds) h = cc
+all_tables_len (item (boolean b) ds) h = cc
+all_tables_len (item (datetime t) ds) h = cc
+all_tables_len (item (array es) ds) h = cc
 all_tables_len (item (table ms) ds) h = let e = all_tables_len ds h in omega (arith, e)
-all_tables_len x h = cc
 
 least_held : (low high : ℕ) (o : Option Data) → is_none o ≡ false
     → option_map_or (λ d. not (has_kind (Tables low high) d)) o false ≡ false
     → option_map_or (λ d. not (is_in_range (Tables low high) d)) o false ≡ false
     → low ≤ length (tables_in (unwrap_or (option_and_then as_array o) no_items))
+least_held low high None a b c = cc
+least_held low high (Some (string s)) a b c = cc
+least_held low high (Some (integer z)) a b c = cc
+least_held low high (Some (float x)) a b c = cc
+least_held low high (Some (boolean t)) a b c = cc
+least_held low high (Some (datetime t)) a b c = cc
+least_held low high (Some (table ms)) a b c = cc
 least_held low high (Some (array ds)) a b c =
     let e = all_tables_len ds (not_false _ b) in
     let some : low ≤ items_len ds = leb-true low (items_len ds)
     (and_parts (nat_le low (items_len ds)) (nat_le (items_len ds) high) (not_false _ c)).0 in
     omega (arith, e)
-least_held low high x a b c = cc
 
 -- a key has at least as many tables as its rule requires
 pub tables_asked : {since : Version} (low high : ℕ) (name : List ℕ) (ms : Members)
@@ -160,13 +179,20 @@ pub length_kept : (ms : Members) (name : List ℕ) (d : Data) → lengths_fault 
     → HoldsNumber (pos shortest_queue) (pos longest_queue) name ms
 length_kept ms name (integer z) h e = let within = length_within ms name z h e in
     record { value = z; held = e; above = within.0; below = within.1 }
-length_kept ms name x h e = let kind = kind_of_length ms name x h e in cc
+length_kept ms name (string s) h e = let kind = kind_of_length ms name (string s) h e in cc
+length_kept ms name (float x) h e = let kind = kind_of_length ms name (float x) h e in cc
+length_kept ms name (boolean b) h e = let kind = kind_of_length ms name (boolean b) h e in cc
+length_kept ms name (datetime t) h e = let kind = kind_of_length ms name (datetime t) h e in cc
+length_kept ms name (array ds) h e = let kind = kind_of_length ms name (array ds) h e in cc
+length_kept ms name (table ts) h e = let kind = kind_of_length ms name (table ts) h e in cc
 
 -- the same length, as the code reads it
 pub length_fits : (ms : Members) (name : List ℕ) → HoldsNumber (pos shortest_queue) (pos longest_queue) name ms
     → HoldsNumber (pos 0) (pos 4294967295) name ms
 length_fits ms name n =
-    record { value = n.value; held = n.held; n.above = omega (arith, ints); n.below = omega (arith, ints) }
+    let above = n.above in
+    let below = n.below in
+    record { value = n.value; held = n.held; above = omega (arith, ints); below = omega (arith, ints) }
 
 -- the number that was read is within the limits
 pub length_read : (ms : Members) (name : List ℕ) (n : ℕ) → HoldsNumber (pos shortest_queue) (pos longest_queue) name ms

@@ -1,5 +1,7 @@
 -- The motes of a net, made from their tables.
-use Rattle.std.proofs.Common.{◌≡◌, ◌<◌, ◌≤◌, ◌&&◌, le-leb, lt-ltb, ℕ, suc, List, [], ◌∷◌, map, length, refl, ap, arith, Some, None, cond, ◌∙◌, Bool, true, false, codes, IsTrue, IsSome, is_none, ◌+◌, find, rules, ◌++◌}
+use Rattle.std.proofs.Common.{◌≡◌, ◌<◌, ◌≤◌, ◌&&◌, le-leb, lt-ltb, ℕ, suc, List, [], ◌∷◌, map, length, refl, ap, arith}
+use Rattle.std.proofs.Common.{Some, None, cond, ◌∙◌, Bool, true, false, codes, IsTrue, IsSome, is_none, ◌+◌, find}
+use Rattle.std.proofs.Common.{rules, ◌++◌}
 use Rattle.std.specs.List.{list_all, position_from}
 use Rattle.std.specs.Str.{bytes_eq}
 use Rattle.std.proofs.lemmas.List.Folds.{list_all-append}
@@ -8,9 +10,10 @@ use Rattle.toml.specs.Data.{Members}
 use Rattle.net_scenario.specs.Document.{text_at}
 use Rattle.mote_net.specs.declared.programs.NamedProgram.{NamedProgram}
 use Rattle.mote_net.specs.Programs.{NamedTree}
-use Rattle.mote_net.specs.Meaning.{named_tree, setup_of, program_at}
+use Rattle.mote_net.specs.Meaning.{named_tree}
 use Rattle.mote_net.specs.Motes.{is_mote_of}
 use Rattle.mote_net.specs.Limits.{shortest_queue, longest_queue}
+use Rattle.mote_net.specs.Meaning.{setup_of, program_at}
 use Rattle.net_scenario.specs.Net.{queue_of, mote_of_table, unread_fault, program_named}
 
 none_cond : {Y : Type 0} (b : Bool) (e : Y) → cond b (Some e) None ≡ None → b ≡ false

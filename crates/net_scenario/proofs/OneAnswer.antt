@@ -7,7 +7,9 @@ use Rattle.program_tree.specs.declared.error.ReadError.{ReadError}
 use Rattle.program_tree.specs.declared.error.ReadErrorKind.{ReadErrorKind}
 use Rattle.radio_medium.specs.declared.error.MediumError.{MediumError}
 use Rattle.net_scenario.specs.declared.error.ScenarioError.{ScenarioError}
-use Rattle.net_scenario.specs.declared.error.ScenarioError.TheVariants.{Program, Medium, Memory}
+use Rattle.net_scenario.specs.declared.error.ScenarioError.TheVariants.{Toml, MissingKey, UnknownKey, WrongKind}
+use Rattle.net_scenario.specs.declared.error.ScenarioError.TheVariants.{OutOfRange, UnknownProgram, Program, Medium}
+use Rattle.net_scenario.specs.declared.error.ScenarioError.TheVariants.{Memory}
 use Rattle.mote_net.specs.Programs.{NamedTree}
 use Rattle.net_scenario.specs.Programs.{ProgramText, AllRead, FirstRefused}
 use Rattle.net_scenario.specs.Net.{net_in}
@@ -107,14 +109,24 @@ never_both laws text n (Medium e) a b =
     let some = y.medium in
     cc
 never_both laws text n Memory a b = b
-never_both laws text n x a b = let is = a.0.is in cc
+never_both laws text n Toml a b = let is = a.0.is in cc
+never_both laws text n MissingKey a b = let is = a.0.is in cc
+never_both laws text n UnknownKey a b = let is = a.0.is in cc
+never_both laws text n WrongKind a b = let is = a.0.is in cc
+never_both laws text n OutOfRange a b = let is = a.0.is in cc
+never_both laws text n UnknownProgram a b = let is = a.0.is in cc
 
 -- a fault of the tables is the only fault of the text
 of_tables : (text : List ℕ) (e f : ScenarioError) → document_of text ≡ Err e → TellsFault text f → e ≡ f
 of_tables text e (Program name x) a b = let is = b.0.is in cc
 of_tables text e (Medium x) a b = let is = b.0.is in cc
 of_tables text e Memory a b = absurd b
-of_tables text e x a b = cc
+of_tables text e Toml a b = cc
+of_tables text e MissingKey a b = cc
+of_tables text e UnknownKey a b = cc
+of_tables text e WrongKind a b = cc
+of_tables text e OutOfRange a b = cc
+of_tables text e UnknownProgram a b = cc
 
 of_medium : ProgramLaws → (text : List ℕ) (m : MediumError) (f : ScenarioError) → TellsFault text (Medium m)
     → TellsFault text f → Medium m ≡ f
@@ -128,9 +140,20 @@ of_medium laws text m (Medium x) a b =
     let other = y.medium in
     cc
 of_medium laws text m Memory a b = absurd b
-of_medium laws text m x a b = let is = a.0.is in cc
+of_medium laws text m Toml a b = let is = a.0.is in cc
+of_medium laws text m MissingKey a b = let is = a.0.is in cc
+of_medium laws text m UnknownKey a b = let is = a.0.is in cc
+of_medium laws text m WrongKind a b = let is = a.0.is in cc
+of_medium laws text m OutOfRange a b = let is = a.0.is in cc
+of_medium laws text m UnknownProgram a b = let is = a.0.is in cc
 
 pub one_fault : ProgramLaws → AtMostOneFault
+one_fault laws text Toml f a b = of_tables text Toml f a b
+one_fault laws text MissingKey f a b = of_tables text MissingKey f a b
+one_fault laws text UnknownKey f a b = of_tables text UnknownKey f a b
+one_fault laws text WrongKind f a b = of_tables text WrongKind f a b
+one_fault laws text OutOfRange f a b = of_tables text OutOfRange f a b
+one_fault laws text UnknownProgram f a b = of_tables text UnknownProgram f a b
 one_fault laws text Memory f a b = absurd a
 one_fault laws text (Medium m) f a b = of_medium laws text m f a b
 one_fault laws text (Program m d) (Program n e) a b =
@@ -141,5 +164,9 @@ one_fault laws text (Program m d) (Program n e) a b =
     cc
 one_fault laws text (Program m d) (Medium e) a b = sym (of_medium laws text e (Program m d) b a)
 one_fault laws text (Program m d) Memory a b = absurd b
-one_fault laws text (Program m d) x a b = let is = a.0.is in cc
-one_fault laws text x f a b = of_tables text x f a b
+one_fault laws text (Program m d) Toml a b = let is = a.0.is in cc
+one_fault laws text (Program m d) MissingKey a b = let is = a.0.is in cc
+one_fault laws text (Program m d) UnknownKey a b = let is = a.0.is in cc
+one_fault laws text (Program m d) WrongKind a b = let is = a.0.is in cc
+one_fault laws text (Program m d) OutOfRange a b = let is = a.0.is in cc
+one_fault laws text (Program m d) UnknownProgram a b = let is = a.0.is in cc

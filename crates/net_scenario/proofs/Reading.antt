@@ -1,5 +1,6 @@
 -- The meaning of a text, found from the meaning of its document.
-use Rattle.std.proofs.Common.{◌≡◌, ◌≤◌, ℕ, List, length, map, codes, ℤ, pos, Bool, unwrap_or, nat_lt, false, lit<, refl, sym, ap, ◌∙◌, arith, Result, Ok, Err, Option, Some, None}
+use Rattle.std.proofs.Common.{◌≡◌, ◌≤◌, ℕ, List, length, map, codes, ℤ, pos, Bool, unwrap_or, nat_lt, false, lit<}
+use Rattle.std.proofs.Common.{refl, sym, ap, ◌∙◌, arith, Result, Ok, Err, Option, Some, None}
 use Rattle.std.proofs.lemmas.Bool.Decides.{nat_tests}
 use Rattle.std.proofs.lemmas.List.{length-map}
 use Rattle.toml.specs.Data.{Members}
@@ -12,14 +13,19 @@ use Rattle.net_scenario.specs.Rules.{top_rules}
 use Rattle.net_scenario.proofs.Each.{Faultless}
 use Rattle.net_scenario.proofs.Keeps.{keeps_all}
 use Rattle.net_scenario.proofs.Members.{tables_kept, tables_asked}
+use Rattle.radio_medium.specs.declared.error.MediumError.TheVariants as medium
 use Rattle.net_scenario.specs.declared.error.ScenarioError.{ScenarioError}
-use Rattle.net_scenario.specs.declared.error.ScenarioError.TheVariants.{Program, Medium, Memory}
+use Rattle.net_scenario.specs.declared.error.ScenarioError.TheVariants.{Toml, MissingKey, UnknownKey, WrongKind}
+use Rattle.net_scenario.specs.declared.error.ScenarioError.TheVariants.{OutOfRange, UnknownProgram, Program, Medium}
+use Rattle.net_scenario.specs.declared.error.ScenarioError.TheVariants.{Memory}
 use Rattle.mote_net.specs.declared.net.Net.{Net}
 use Rattle.mote_net.specs.declared.programs.NamedProgram.{NamedProgram}
-use Rattle.net_scenario.specs.Document.{version_of, natural, integer_at, natural_at, boolean_at, table_at, tables_at, document_fault}
-use Rattle.mote_net.specs.Meaning.{named_tree, setup_of}
+use Rattle.net_scenario.specs.Document.{version_of, natural, integer_at, natural_at, boolean_at, table_at, tables_at}
+use Rattle.net_scenario.specs.Document.{document_fault}
+use Rattle.mote_net.specs.Meaning.{named_tree}
 use Rattle.net_scenario.specs.Programs.{program_texts, AllRead}
 use Rattle.mote_net.specs.Net.{MoteSetup}
+use Rattle.mote_net.specs.Meaning.{setup_of}
 use Rattle.net_scenario.specs.Net.{mote_of_table, place_in, radio_in}
 use Rattle.net_scenario.specs.Reading.{document_of, IsNetOf}
 use Rattle.net_scenario.specs.Reads.{MakesRadio, MakesNet, Answers}
@@ -31,7 +37,12 @@ answered text top (Ok net) is m = (record { top = top; is = is }, m)
 answered text top (Err (Program name e)) is m = (record { top = top; is = is }, m)
 answered text top (Err (Medium e)) is m = (record { top = top; is = is }, m)
 answered text top (Err Memory) is m = tt
-answered text top x is m = absurd m
+answered text top (Err Toml) is m = absurd m
+answered text top (Err MissingKey) is m = absurd m
+answered text top (Err UnknownKey) is m = absurd m
+answered text top (Err WrongKind) is m = absurd m
+answered text top (Err OutOfRange) is m = absurd m
+answered text top (Err UnknownProgram) is m = absurd m
 
 -- a text that is short enough, and is TOML with tables without a fault, has this document
 pub document_is : (text : List ℕ) (top : Members) → length text ≤ longest_text → parse_document text ≡ Some top

@@ -1,20 +1,26 @@
 -- Tables and arrays in the code, and the data that they represent.
-use Rattle.std.proofs.Common.{◌≡◌, ℕ, Bool, ◌&&◌, ◌||◌, nat_le, List, [], ◌∷◌, map, length, is_some, is_none, not, cond, true, false, Some, None, BTreeMap, if◌then◌else◌, String, Global, string_bytes, refl, ap, arith}
+use Rattle.std.proofs.Common.{◌≡◌, ℕ, Bool, ◌&&◌, ◌||◌, nat_le, List, [], ◌∷◌, map, length, is_some, is_none, not}
+use Rattle.std.proofs.Common.{cond, true, false, Some, None, BTreeMap, if◌then◌else◌, String, Global, string_bytes}
+use Rattle.std.proofs.Common.{refl, ap, arith}
 use Rattle.std.specs.List.{list_any, list_all}
 use Rattle.std.specs.Map.{keys_of, values_of}
 use Rattle.net_scenario.specs.Limits.{most_programs}
 use Rattle.net_scenario.specs.Names.{is_program_name, values_any, members_len, names_fault, queue_length, lengths_fault}
 use Rattle.toml.specs.Data.{Data, Members, no_members, get_member, as_table, as_str}
-use Rattle.toml.specs.View.{view, items_view, members_view, table_view}
+use Rattle.toml.specs.View.{view, items_view, members_view}
 use Rattle.toml.specs.declared.value.Value.{Value}
 use Rattle.toml.proofs.Views.{Entry}
 use Rattle.net_scenario.specs.declared.version.Version.{Version}
 use Rattle.net_scenario.specs.Document.{queue_fault}
-use Rattle.net_scenario.specs.Rules.{Rule, has_come, known_in, has_kind, is_in_range, misses, holds_other_kind, holds_out_of_range, keys_fault, are_tables, items_len, members_any}
+use Rattle.net_scenario.specs.Rules.{Rule, has_come, known_in, has_kind, is_in_range, misses}
 use Rattle.net_scenario.specs.Checks.{rule_of}
+use Rattle.net_scenario.specs.Rules.{holds_other_kind, holds_out_of_range, keys_fault, are_tables, items_len}
+use Rattle.net_scenario.specs.Rules.{members_any}
 use Rattle.std.specs.Str.{bytes_eq}
+use Rattle.toml.specs.View.{table_view}
 use Rattle.net_scenario.specs.declared.rules.Key.{Key}
-use Rattle.net_scenario.specs.declared.error.TableFault.TheVariants.{MissingKey, UnknownKey, WrongKind, OutOfRange, UnknownProgram}
+use Rattle.net_scenario.specs.declared.error.TableFault.TheVariants.{MissingKey, UnknownKey, WrongKind, OutOfRange}
+use Rattle.net_scenario.specs.declared.error.TableFault.TheVariants.{UnknownProgram}
 
 pub are_tables_view : (vs : List Value) → are_tables (items_view vs) ≡ list_all (λ v. is_some (as_table (view v))) vs
 are_tables_view [] = refl

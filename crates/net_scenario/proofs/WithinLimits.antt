@@ -1,5 +1,6 @@
 -- A document without a fault keeps the limits of the medium.
-use Rattle.std.proofs.Common.{◌≡◌, ◌≤◌, ℕ, List, [], ◌∷◌, map, codes, refl, pos, neg_ℤ, unsigned_abs, Some, None, lit<, All, zero, suc, arith}
+use Rattle.std.proofs.Common.{◌≡◌, ◌≤◌, ℕ, List, [], ◌∷◌, map, codes, refl, pos, neg_ℤ, unsigned_abs}
+use Rattle.std.proofs.Common.{Some, None, lit<, All, zero, suc, arith}
 use Rattle.std.proofs.lemmas.List.{length-map}
 use Rattle.toml.specs.Data.{Members}
 use Rattle.radio_medium.specs.Medium.{IsWithinLimits}

@@ -21,6 +21,7 @@ use Rattle.protothread.specs.declared.step.Op.{Op}
 use Rattle.protothread.specs.declared.step.Op.TheVariants.{Post, Synch, Poll, Start, Kill}
 use Rattle.protothread.specs.declared.step.Step.{Step}
 use Rattle.protothread.specs.declared.step.Step.TheVariants as step
+use Rattle.protothread.specs.declared.answer.PtState.TheVariants.{Waiting, Yielded, Exited, Ended}
 use Rattle.protothread.specs.Looks.{Looks}
 use Rattle.protothread.specs.Value.{value, holds}
 use Rattle.protothread.specs.Remainder.{Place, ended, at, within, settled, Remainder, thread_block, whole_of}
@@ -82,8 +83,12 @@ own_performed code whole vars s rest (Pauses o) h = h
 own_performed code whole vars s rest x h = tt
 
 own_spawner : (t : ℕ) (rest : List (Statement ℕ)) (vars : List ℕ) (r : Reached) → ReachedNamesOwn r → ReachedNamesOwn (spawner_reached t rest vars r)
+own_spawner t rest vars (goes_on changed p) h = tt
 own_spawner t rest vars (operates o last_action p) h = h
-own_spawner t rest vars x h = tt
+own_spawner t rest vars (answers Waiting p) h = tt
+own_spawner t rest vars (answers Yielded p) h = tt
+own_spawner t rest vars (answers Exited p) h = tt
+own_spawner t rest vars (answers Ended p) h = tt
 
 own_reached : (code : Code) (whole : List (Statement ℕ)) (vars : List ℕ) (event : Event) (looks : Looks) (p : Place) → ReachedNamesOwn (reached code whole vars event looks p)
 own_reached code whole vars event looks (at y (does a) rest) =

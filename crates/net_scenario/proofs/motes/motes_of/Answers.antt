@@ -4,7 +4,8 @@ use Rattle.std.proofs.lemmas.List.{map_push}
 use Rattle.toml.specs.View.{items_view}
 use Rattle.mote_net.specs.declared.net.MoteSetup.{MoteSetup}
 use Rattle.mote_net.specs.Motes.{is_mote_of}
-use Rattle.mote_net.specs.Meaning.{named_tree, setup_of}
+use Rattle.mote_net.specs.Meaning.{named_tree}
+use Rattle.mote_net.specs.Meaning.{setup_of}
 use Rattle.net_scenario.specs.Document.{members_of, tables_in}
 use Rattle.net_scenario.specs.Net.{mote_of_table, unread_fault}
 use Rattle.net_scenario.proofs.Each.{none_at, none_from, map_table, map_no_table, map_all}

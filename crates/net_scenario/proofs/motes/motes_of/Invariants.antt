@@ -3,7 +3,8 @@ use Rattle.std.specs.List.{list_all}
 use Rattle.toml.specs.View.{items_view}
 use Rattle.net_scenario.specs.Document.{first_some, members_of, tables_in}
 use Rattle.mote_net.specs.Motes.{is_mote_of}
-use Rattle.mote_net.specs.Meaning.{named_tree, setup_of}
+use Rattle.mote_net.specs.Meaning.{named_tree}
+use Rattle.mote_net.specs.Meaning.{setup_of}
 use Rattle.net_scenario.specs.Net.{mote_of_table, unread_fault}
 use Rattle.net_scenario.proofs.motes.motes_of.Given as goal
 
