@@ -321,7 +321,7 @@ def test_a_goal_of_a_contract_that_is_proved_by_hand(tmp_path: Path) -> None:
         'Kept::long']
 
 
-MOST_OPEN = 9
+MOST_OPEN = 7
 
 
 CODE_OF_A_CRATE = text_of('crate.txt')
